@@ -1,0 +1,89 @@
+-- When a tree is well formed: each use gets values of the types that it needs, the locals that are named exist, and no local
+-- is read before it is assigned.
+use Rattle.std.specs.Prelude.{◌≡◌, ℕ, Bool, true, false, nat_eq, cond, List, [], ◌∷◌, map, Some, None, slice_get, ℤ}
+use Rattle.kc_core.specs.declared.tree.TypeTree.{TypeTree}
+use Rattle.kc_core.specs.declared.tree.TypeTree.TheVariants as type_is
+use Rattle.kc_core.specs.declared.tree.BinaryOp.{BinaryOp}
+use Rattle.kc_core.specs.declared.tree.UnaryOp.{UnaryOp}
+use Rattle.kc_core.specs.declared.tree.Native.{Native}
+use Rattle.kc_core.specs.declared.tree.Native.TheVariants as native_is
+use Rattle.kc_core.specs.declared.tree.Local.{Local}
+use Rattle.kc_core.specs.declared.tree.Function.{Function}
+use Rattle.kc_core.specs.declared.tree.Program.{Program}
+use Rattle.kc_core.specs.declared.tree.Core.{Core}
+use Rattle.kc_core.specs.declared.tree.Kind.{out-Kind}
+use Rattle.kc_core.specs.declared.tree.Kind.TheOpen.{Kind-F}
+
+-- which locals are assigned, by their numbers
+abbrev pub Assigned : Type 0
+Assigned = ℕ → Bool
+
+abbrev pub none_assigned : Assigned
+none_assigned x = false
+
+-- as before, but for whether x is assigned
+abbrev pub marked : ℕ → Bool → Assigned → Assigned
+marked x is before = λ y. cond (nat_eq y x) is (before y)
+
+abbrev pub type_of : Core → TypeTree
+type_of e = e.ty
+
+-- the type of the last part, or `ty` where there is none
+abbrev pub last_type : TypeTree → List Core → TypeTree
+last_type ty [] = ty
+last_type ty (e ∷ es) = last_type e.ty es
+
+-- values of this type have a text
+abbrev pub HasText : TypeTree → Type 0
+HasText type_is.Int = Unit {0}
+HasText type_is.String = Unit {0}
+HasText type_is.Unit = ⊥
+
+abbrev pub AllHaveText : List Core → Type 0
+AllHaveText [] = Unit {0}
+AllHaveText (e ∷ es) = HasText e.ty × AllHaveText es
+
+-- the types of a native's parameters, and that of its result
+abbrev pub parameters_of : Native → List TypeTree
+parameters_of native_is.ConsoleWrite = type_is.String ∷ []
+
+abbrev pub result_of : Native → TypeTree
+result_of native_is.ConsoleWrite = type_is.Unit
+
+-- `Formed locals e a b`: the node e is well formed in a function with these locals, where the locals in a are assigned before
+-- it, and those in b are assigned after it, if it gives a value. `FormedAll` says it of nodes that are evaluated in turn.
+-- A rule for a node with several ways through it takes for b only locals that each way assigns.
+mutual
+  pub data Formed (locals : List Local) : Core → Assigned → Assigned → Type 0 where
+    IntLit : (e : Core) (n : ℤ) (a : Assigned) → out-Kind e.kind ≡ Kind-F.IntLit n → e.ty ≡ type_is.Int → Formed locals e a a
+    StrLit : (e : Core) (t : List ℕ) (a : Assigned) → out-Kind e.kind ≡ Kind-F.StrLit t → e.ty ≡ type_is.String → Formed locals e a a
+    LocalRead : (e : Core) (x : ℕ) (l : Local) (a : Assigned) → out-Kind e.kind ≡ Kind-F.LocalRead x →
+        slice_get locals x ≡ Some l → e.ty ≡ l.ty → a x ≡ true → Formed locals e a a
+    DeclareUnset : (e : Core) (x : ℕ) (l : Local) (a : Assigned) → out-Kind e.kind ≡ Kind-F.Declare x None →
+        slice_get locals x ≡ Some l → e.ty ≡ type_is.Unit → Formed locals e a (marked x false a)
+    Declare : (e : Core) (x : ℕ) (l : Local) (v : Core) (a b : Assigned) → out-Kind e.kind ≡ Kind-F.Declare x (Some v) →
+        slice_get locals x ≡ Some l → e.ty ≡ type_is.Unit → v.ty ≡ l.ty → Formed locals v a b → Formed locals e a (marked x true b)
+    NumBinary : (e : Core) (op : BinaryOp) (left right : Core) (a b c : Assigned) → out-Kind e.kind ≡ Kind-F.NumBinary op left right →
+        e.ty ≡ type_is.Int → left.ty ≡ type_is.Int → right.ty ≡ type_is.Int → Formed locals left a b → Formed locals right b c → Formed locals e a c
+    NumUnary : (e : Core) (op : UnaryOp) (v : Core) (a b : Assigned) → out-Kind e.kind ≡ Kind-F.NumUnary op v →
+        e.ty ≡ type_is.Int → v.ty ≡ type_is.Int → Formed locals v a b → Formed locals e a b
+    Concat : (e : Core) (parts : List Core) (a b : Assigned) → out-Kind e.kind ≡ Kind-F.Concat parts →
+        e.ty ≡ type_is.String → AllHaveText parts → FormedAll locals parts a b → Formed locals e a b
+    CallNative : (e : Core) (f : Native) (values : List Core) (a b : Assigned) → out-Kind e.kind ≡ Kind-F.CallNative f values →
+        e.ty ≡ result_of f → map type_of values ≡ parameters_of f → FormedAll locals values a b → Formed locals e a b
+    Block : (e : Core) (parts : List Core) (a b : Assigned) → out-Kind e.kind ≡ Kind-F.Block parts →
+        e.ty ≡ last_type type_is.Unit parts → FormedAll locals parts a b → Formed locals e a b
+
+  pub data FormedAll (locals : List Local) : List Core → Assigned → Assigned → Type 0 where
+    NoMore : (a : Assigned) → FormedAll locals [] a a
+    Next : (e : Core) (es : List Core) (a b c : Assigned) → Formed locals e a b → FormedAll locals es b c → FormedAll locals (e ∷ es) a c
+
+-- a function that a program may start with
+pub record FormedMain (f : Function) : Type 0 where
+  pub no_parameters : f.params ≡ 0
+  pub result : f.result ≡ type_is.Unit
+  pub after : Assigned
+  pub body : Formed f.locals f.body none_assigned after
+
+abbrev pub MainFormed : Program → ℕ → Type 0
+MainFormed program main = (f : Function) × (slice_get program.functions main ≡ Some f) × FormedMain f

@@ -1,0 +1,10 @@
+pub mod Runs
+pub mod Agreement
+pub mod Lists
+pub mod Values
+pub mod Meaning
+pub mod MeaningLaws
+pub mod Formed
+pub mod FormedLaws
+pub mod Theorems
+pub mod NeverBroken

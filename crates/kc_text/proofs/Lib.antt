@@ -1,0 +1,3 @@
+pub mod Different
+pub mod Reading
+pub mod Transcoding

@@ -1,0 +1,3 @@
+pub mod Fail
+pub mod NameList
+pub mod Unicode
