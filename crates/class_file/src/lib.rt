@@ -1,0 +1,9 @@
+//! Class files: their values and what they mean.
+#![tactic(auto)]
+
+pub mod class;
+pub mod instr;
+pub mod pool;
+pub mod row;
+pub mod table;
+pub mod value;

@@ -1,0 +1,7 @@
+pub mod Faults
+pub mod Stacks
+pub mod Links
+pub mod Core
+pub mod Runs
+pub mod Seen
+pub mod Laws

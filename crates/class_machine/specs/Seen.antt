@@ -1,0 +1,34 @@
+-- What callers see of a machine, and what a run comes to.
+use Rattle.std.specs.Prelude.{◌≡◌, ℕ, ◌<◌, ◌++◌, Bool, true, false, List, Option, ⊤}
+use Rattle.class_file.specs.declared.class.Set.{Set}
+use Rattle.class_file.specs.Machine.{Next, Going, Over}
+use Rattle.class_file.specs.Machine as machine
+use Rattle.class_machine.specs.declared.machine.RunEnd.{RunEnd}
+use Rattle.class_machine.specs.declared.machine.RunEnd.TheVariants.{Ended, Threw, StepLimit, ReadFault, WriteFault, Memory}
+use Rattle.class_machine.specs.Core.{Core, state_of}
+use Rattle.class_machine.specs.Runs.{Wrote, Cut}
+
+pub record Seen : Type 0 where
+  pub set : Set
+  pub core : Core
+  pub live : Bool
+
+-- What the definition's run comes to, from each input and after each earlier output, is this end, and the sink took what the
+-- run wrote. A run that a fault broke off wrote a front of it.
+abbrev pub RunsTo : (List ℕ → List ℕ → Next) → RunEnd → Core → Option (List ℕ) → Option (List ℕ) → Type 0
+RunsTo run Ended core before after = Wrote before after (λ said. (input earlier : List ℕ) → run input earlier ≡ Over machine.Ended (earlier ++ said))
+RunsTo run (Threw class message) core before after = Wrote before after (λ said. (input earlier : List ℕ) → run input earlier ≡ Over (machine.Threw class message) (earlier ++ said))
+RunsTo run StepLimit core before after = Wrote before after (λ said. (input earlier : List ℕ) → run input earlier ≡ Going (state_of core input (earlier ++ said)))
+RunsTo run ReadFault core before after = Cut before after run
+RunsTo run WriteFault core before after = Cut before after run
+RunsTo run Memory core before after = Cut before after run
+
+abbrev pub is_step_limit : RunEnd → Bool
+is_step_limit StepLimit = true
+is_step_limit _ = false
+
+-- a fault of the input or the output comes only where that object's count of faults rose
+abbrev pub IsCausedBy : RunEnd → ℕ → ℕ → ℕ → ℕ → Type 0
+IsCausedBy ReadFault in_before in_after out_before out_after = in_before < in_after
+IsCausedBy WriteFault in_before in_after out_before out_after = out_before < out_after
+IsCausedBy _ in_before in_after out_before out_after = ⊤

@@ -1,0 +1,14 @@
+//! Laws of the definition's runs.
+
+ghost use Rattle.class_machine.specs.Laws.{RunsAdd, OutputGrows, OverStays};
+
+/// A run of some steps and then of more is one run.
+pub fn runs_add()
+    ensures { RunsAdd }
+{}
+
+/// What a run has written stays, and a run that is over stays over.
+pub fn output_grows()
+    ensures grows { OutputGrows }
+    ensures over { OverStays }
+{}

@@ -1,0 +1,16 @@
+pub mod Cut
+pub mod Grammar
+pub mod Elaboration
+pub mod Form
+pub mod Pieces
+pub mod Parsed
+pub mod Elaborated
+pub mod ClassName
+pub mod Lines
+pub mod Scan
+pub mod SourceFile
+pub mod Status
+pub mod Words
+pub mod Compiled
+pub mod Execution
+pub mod Serving

@@ -1,0 +1,242 @@
+-- Emitting one stretch of code behind another.
+use Rattle.std.proofs.Common.{◌≡◌, ℕ, zero, suc, ◌+◌, ◌⊎◌, inl, inr, List, [], ◌∷◌, ◌++◌, length, Option, Some, None, refl, sym, ap, ◌∙◌, subst, arith, append_assoc, append-nil, ⊎_elim}
+use Rattle.std.specs.Prelude.{slice_get, ℤ}
+use Rattle.class_file.specs.declared.pool.Entry.{Entry}
+use Rattle.class_file.specs.declared.pool.Entry.TheVariants.{Utf8, Integer, Long, Class, Str, FieldRef, MethodRef, InterfaceMethodRef, NameAndType}
+use Rattle.class_file.specs.declared.value.NativeId.{NativeId}
+use Rattle.class_file.specs.declared.instr.Instr.{Instr}
+use Rattle.class_file.specs.Rows.{length_of, row_of}
+use Rattle.class_file.specs.Pools.{Slots, flat, entry_at, text_in, name_in, typed_in, method_in, member_of, Member, constant_in, literal_of, Constant, Extends}
+use Rattle.class_file.specs.Machine.{callee}
+use Rattle.stack_code.specs.Code.{Operation, PushInt, PushText, Load, Store, Compute, Negate, Discard, Call, Leave, bytes_of, StandsFor, Spells}
+use Rattle.std.proofs.Common.{drop, map, ◌<◌, ◌≤◌, Bool, true, false, length-drop, get_or}
+use Rattle.std.proofs.lemmas.List.{drop_all, drop_more}
+use Rattle.std.proofs.lemmas.Bool.{cases_lt}
+use Rattle.stack_code.specs.Code.{discards, to_text}
+use Rattle.stack_code.specs.Emission.{after_part, after_text, texts_left}
+use Rattle.stack_code.proofs.Nodes.{type_of_code}
+use Rattle.class_file.specs.declared.value.NativeId.TheVariants as native_is
+use Rattle.kc_core.specs.declared.tree.Core.{Core}
+use Rattle.stack_code.specs.Code.{code_of, Emitted, Several, in_turn, values, texts, further_texts}
+use Rattle.stack_code.specs.Emission.{Emits, IsFor, NamesTypes, Partly}
+use Rattle.stack_code.proofs.Lists.{get_front}
+
+pub extends_none : (p : Slots) → Extends p p
+extends_none p = ([], sym (append-nil p))
+
+pub extends_on : (p q r : Slots) → Extends p q → Extends q r → Extends p r
+extends_on p q r a b = (a.0 ++ b.0, b.1 ∙ ap (λ w. w ++ b.0) a.1 ∙ append_assoc p a.0 b.0)
+
+some_slot : (o : Option (Option Entry)) (e : Entry) → flat o ≡ Some e → o ≡ Some (Some e)
+some_slot (Some (Some x)) e h = ap Some h
+some_slot (Some None) e h = cc
+some_slot None e h = cc
+
+-- an entry stays
+pub entry_stays : (p q : Slots) (i : ℕ) (e : Entry) → Extends p q → entry_at p i ≡ Some e → entry_at q i ≡ Some e
+entry_stays p q i e x h =
+    ap (λ w. flat (slice_get w i)) x.1 ∙ ap flat (get_front p x.0 i (Some e) (some_slot (slice_get p i) e h))
+
+-- so does what an entry names
+text_stays : (p q : Slots) (i : ℕ) (t : List ℕ) → Extends p q → (w : Option Entry) → entry_at p i ≡ w → text_in w ≡ Some t → text_in (entry_at q i) ≡ Some t
+text_stays p q i t x (Some e) h k = ap text_in (entry_stays p q i e x h) ∙ k
+text_stays p q i t x None h k = cc
+
+pub text_kept : (p q : Slots) (i : ℕ) (t : List ℕ) → Extends p q → text_in (entry_at p i) ≡ Some t → text_in (entry_at q i) ≡ Some t
+text_kept p q i t x h = text_stays p q i t x (entry_at p i) refl h
+
+name_of : (p q : Slots) (t : List ℕ) → Extends p q → (e : Entry) → name_in p (Some e) ≡ Some t → name_in q (Some e) ≡ Some t
+name_of p q t x (Class n) h = text_kept p q n t x h
+name_of p q t x (Utf8 a) h = cc
+name_of p q t x (Integer a) h = cc
+name_of p q t x (Long a) h = cc
+name_of p q t x (Str a) h = cc
+name_of p q t x (FieldRef a b) h = cc
+name_of p q t x (MethodRef a b) h = cc
+name_of p q t x (InterfaceMethodRef a b) h = cc
+name_of p q t x (NameAndType a b) h = cc
+
+name_stays : (p q : Slots) (i : ℕ) (t : List ℕ) → Extends p q → (w : Option Entry) → entry_at p i ≡ w → name_in p w ≡ Some t → name_in q (entry_at q i) ≡ Some t
+name_stays p q i t x (Some e) h k = ap (name_in q) (entry_stays p q i e x h) ∙ name_of p q t x e k
+name_stays p q i t x None h k = cc
+
+literal_is : (o : Option (List ℕ)) (c : Constant) → literal_of o ≡ Some c → (t : List ℕ) × (o ≡ Some t)
+literal_is (Some t) c h = (t, refl)
+literal_is None c h = cc
+
+constant_of : (p q : Slots) (c : Constant) → Extends p q → (e : Entry) → constant_in p (Some e) ≡ Some c → constant_in q (Some e) ≡ Some c
+constant_of p q c x (Integer n) h = h
+constant_of p q c x (Str n) h =
+    let t = literal_is (text_in (entry_at p n)) c h in
+    ap literal_of (text_kept p q n t.0 x t.1 ∙ sym t.1) ∙ h
+constant_of p q c x (Utf8 a) h = cc
+constant_of p q c x (Long a) h = cc
+constant_of p q c x (Class a) h = cc
+constant_of p q c x (FieldRef a b) h = cc
+constant_of p q c x (MethodRef a b) h = cc
+constant_of p q c x (InterfaceMethodRef a b) h = cc
+constant_of p q c x (NameAndType a b) h = cc
+
+constant_stays : (p q : Slots) (i : ℕ) (c : Constant) → Extends p q → (w : Option Entry) → entry_at p i ≡ w → constant_in p w ≡ Some c → constant_in q (entry_at q i) ≡ Some c
+constant_stays p q i c x (Some e) h k = ap (constant_in q) (entry_stays p q i e x h) ∙ constant_of p q c x e k
+constant_stays p q i c x None h k = cc
+
+-- the three texts of a member
+parts_there : (a b d : Option (List ℕ)) (m : Member) → member_of a b d ≡ Some m → (x : List ℕ) × (a ≡ Some x) × ((y : List ℕ) × (b ≡ Some y) × ((z : List ℕ) × (d ≡ Some z)))
+parts_there (Some x) (Some y) (Some z) m h = (x, refl, (y, refl, (z, refl)))
+parts_there None b d m h = cc
+parts_there (Some x) None d m h = cc
+parts_there (Some x) (Some y) None m h = cc
+
+typed_of : (p q : Slots) (a a' : Option (List ℕ)) (m : Member) → Extends p q → ((x : List ℕ) → a ≡ Some x → a' ≡ Some x) → (e : Entry) → typed_in p a (Some e) ≡ Some m → typed_in q a' (Some e) ≡ Some m
+typed_of p q a a' m x f (NameAndType n d) h =
+    let t = parts_there a (text_in (entry_at p n)) (text_in (entry_at p d)) m h in
+    let e1 : a' ≡ a = f t.0 t.1 ∙ sym t.1 in
+    let e2 : text_in (entry_at q n) ≡ text_in (entry_at p n) = text_kept p q n t.2.0 x t.2.1 ∙ sym t.2.1 in
+    let e3 : text_in (entry_at q d) ≡ text_in (entry_at p d) = text_kept p q d t.2.2.0 x t.2.2.1 ∙ sym t.2.2.1 in
+    ap (λ w. member_of w (text_in (entry_at q n)) (text_in (entry_at q d))) e1 ∙ ap (λ w. member_of a w (text_in (entry_at q d))) e2 ∙ ap (λ w. member_of a (text_in (entry_at p n)) w) e3 ∙ h
+typed_of p q a a' m x f (Integer b) h = cc
+typed_of p q a a' m x f (Utf8 b) h = cc
+typed_of p q a a' m x f (Long b) h = cc
+typed_of p q a a' m x f (Class b) h = cc
+typed_of p q a a' m x f (Str b) h = cc
+typed_of p q a a' m x f (FieldRef b c) h = cc
+typed_of p q a a' m x f (MethodRef b c) h = cc
+typed_of p q a a' m x f (InterfaceMethodRef b c) h = cc
+
+typed_stays : (p q : Slots) (i : ℕ) (a a' : Option (List ℕ)) (m : Member) → Extends p q → ((x : List ℕ) → a ≡ Some x → a' ≡ Some x) → (w : Option Entry) → entry_at p i ≡ w → typed_in p a w ≡ Some m → typed_in q a' (entry_at q i) ≡ Some m
+typed_stays p q i a a' m x f (Some e) h k = ap (typed_in q a') (entry_stays p q i e x h) ∙ typed_of p q a a' m x f e k
+typed_stays p q i a a' m x f None h k = cc
+
+method_of : (p q : Slots) (m : Member) → Extends p q → (e : Entry) → method_in p (Some e) ≡ Some m → method_in q (Some e) ≡ Some m
+method_of p q m x (MethodRef n d) h =
+    typed_stays p q d (name_in p (entry_at p n)) (name_in q (entry_at q n)) m x (λ t k. name_stays p q n t x (entry_at p n) refl k) (entry_at p d) refl h
+method_of p q m x (Integer b) h = cc
+method_of p q m x (Utf8 b) h = cc
+method_of p q m x (Long b) h = cc
+method_of p q m x (Class b) h = cc
+method_of p q m x (Str b) h = cc
+method_of p q m x (FieldRef b c) h = cc
+method_of p q m x (InterfaceMethodRef b c) h = cc
+method_of p q m x (NameAndType b c) h = cc
+
+method_stays : (p q : Slots) (i : ℕ) (m : Member) → Extends p q → (w : Option Entry) → entry_at p i ≡ w → method_in p w ≡ Some m → method_in q (entry_at q i) ≡ Some m
+method_stays p q i m x (Some e) h k = ap (method_in q) (entry_stays p q i e x h) ∙ method_of p q m x e k
+method_stays p q i m x None h k = cc
+
+-- a method's entry over the entries of its class and of its name
+pub named_method : (p q r : Slots) (i owner member : ℕ) (o n d : List ℕ) → Extends p q → Extends q r → name_in p (entry_at p owner) ≡ Some o → NamesTypes q member n d → entry_at r i ≡ Some (MethodRef owner member) → method_in r (entry_at r i) ≡ Some (record { owner = o; name = n; descriptor = d })
+named_method p q r i owner member o n d x y h t e =
+    ap (method_in r) e
+    ∙ ap (λ w. typed_in r w (entry_at r member)) (name_stays p r owner o (extends_on p q r x y) (entry_at p owner) refl h)
+    ∙ ap (typed_in r (Some o)) (entry_stays q r member (NameAndType t.first t.second) y t.is)
+    ∙ ap (λ w. member_of (Some o) w (text_in (entry_at r t.second))) (text_kept q r t.first n y t.name_is)
+    ∙ ap (λ w. member_of (Some o) (Some n) w) (text_kept q r t.second d y t.descriptor_is)
+
+called_there : (w : Option Member) (n : NativeId) → callee w ≡ Some n → (m : Member) × (w ≡ Some m)
+called_there (Some m) n h = (m, refl)
+called_there None n h = cc
+
+-- an instruction stands for an operation over a larger pool too
+stands_kept : (p q : Slots) (at : ℕ) (i : Instr) (op : Operation) → Extends p q → StandsFor p at i op → StandsFor q at i op
+stands_kept p q at i (PushInt z) x h =
+    ⊎_elim (λ e. inl e) (λ t. inr (t.0, t.1, constant_stays p q t.0 _ x (entry_at p t.0) refl t.2)) h
+stands_kept p q at i (PushText t) x h = (h.0, h.1, constant_stays p q h.0 _ x (entry_at p h.0) refl h.2)
+stands_kept p q at i (Load k n) x h = h
+stands_kept p q at i (Store k n) x h = h
+stands_kept p q at i (Compute o) x h = h
+stands_kept p q at i Negate x h = h
+stands_kept p q at i Discard x h = h
+stands_kept p q at i (Call n) x h =
+    let m = called_there (method_in p (entry_at p h.0)) n h.2 in
+    (h.0, h.1, ap callee (method_stays p q h.0 m.0 x (entry_at p h.0) refl m.1 ∙ sym m.1) ∙ h.2)
+stands_kept p q at i Leave x h = h
+
+spells_kept : (p q : Slots) (at : ℕ) (is : List Instr) (ops : List Operation) → Extends p q → Spells p at is ops → Spells q at is ops
+spells_kept p q at [] [] x h = tt
+spells_kept p q at (i ∷ is) (o ∷ os) x h = (stands_kept p q at i o x h.0, h.1, spells_kept p q (at + bytes_of o) is os x h.2)
+spells_kept p q at [] (o ∷ os) x h = absurd h
+spells_kept p q at (i ∷ is) [] x h = absurd h
+
+-- a stretch of code is spelled, and another one wherever it stands
+spells_append : (p : Slots) (is js : List Instr) (os more : List Operation) (at : ℕ) → Spells p at is os → ((n : ℕ) → Spells p n js more) → Spells p at (is ++ js) (os ++ more)
+spells_append p [] js [] more at h g = g at
+spells_append p (i ∷ is) js (o ∷ os) more at h g = (h.0, h.1, spells_append p is js os more (at + bytes_of o) h.2 g)
+spells_append p [] js (o ∷ os) more at h g = absurd h
+spells_append p (i ∷ is) js [] more at h g = absurd h
+
+-- nothing is emitted
+pub emits_none : (code : List Instr) (p : Slots) → Emits code code p p []
+emits_none code p = record { added = []; whole = sym (append-nil code); kept = extends_none p; spells = λ at. tt }
+
+-- one instruction
+pub emits_one : (old new : List Instr) (p q : Slots) (i : Instr) (op : Operation) → new ≡ old ++ i ∷ [] → Extends p q → IsFor q i op → Emits old new p q (op ∷ [])
+emits_one old new p q i op e x f = record { added = i ∷ []; whole = e; kept = x; spells = λ at. (f.stands at, f.long, tt) }
+
+-- one stretch behind another
+pub emits_then : (a b c : List Instr) (p q r : Slots) (ops more : List Operation) → Emits a b p q ops → Emits b c q r more → Emits a c p r (ops ++ more)
+emits_then a b c p q r ops more f g = record {
+  added = f.added ++ g.added;
+  whole = g.whole ∙ ap (λ w. w ++ g.added) f.whole ∙ append_assoc a f.added g.added;
+  kept = extends_on p q r f.kept g.kept;
+  spells = λ at. spells_append r f.added g.added ops more at (spells_kept q r at f.added ops g.kept (f.spells at)) g.spells;
+}
+
+-- one instruction that needs no entry of the pool, and how it comes at the code's end
+pub emits_row : (old new : List Instr) (i : Instr) (op : Operation) → new ≡ old ++ i ∷ [] → ((p : Slots) → IsFor p i op) → (p : Slots) → Emits old new p p (op ∷ [])
+emits_row old new i op e f p = emits_one old new p p i op e (extends_none p) (f p)
+
+-- nothing is emitted yet
+pub partly_none : (code : List Instr) (p : Slots) (total : List Operation) → Partly code code p p total total
+partly_none code p total = record { front = []; emitted = emits_none code p; whole = refl }
+
+-- one stretch more
+pub partly_on : (a b c : List Instr) (p q r : Slots) (ops more rest total : List Operation) → rest ≡ ops ++ more → Partly a b p q rest total → Emits b c q r ops → Partly a c p r more total
+partly_on a b c p q r ops more rest total e f g = record {
+  front = f.front ++ ops;
+  emitted = emits_then a b c p q r f.front ops f.emitted g;
+  whole = append_assoc f.front ops more ∙ ap (λ w. f.front ++ w) (sym e) ∙ f.whole;
+}
+
+-- all is emitted
+pub partly_all : (a b : List Instr) (p q : Slots) (rest total : List Operation) → rest ≡ [] → Partly a b p q rest total → Emits a b p q total
+partly_all a b p q rest total e f =
+    subst (Emits a b p q) (sym (append-nil f.front) ∙ ap (λ w. f.front ++ w) (sym e) ∙ f.whole) f.emitted
+
+-- a part and what comes behind it, and the parts behind that
+pub next_part : (es : List Core) (i : ℕ) (e : Core) → i < length es → e ≡ get_or es i e → drop i es ≡ e ∷ drop (i + 1) es
+next_part es i e lt h = drop_more es i e lt ∙ ap (λ x. x ∷ drop (i + 1) es) (sym h)
+
+pub nothing_left : (es : List Core) (i : ℕ) → length es ≤ i → drop i es ≡ []
+nothing_left es i h = drop_all i es h
+
+pub values_next : (es : List Core) (i : ℕ) (e : Core) → i < length es → e ≡ get_or es i e → (values (map code_of (drop i es))).code ≡ (code_of e).code ++ (values (map code_of (drop (i + 1) es))).code
+values_next es i e lt h = ap (λ w. (values (map code_of w)).code) (next_part es i e lt h)
+
+turn_is : (e : Core) (rest : List Core) (last : Bool) → (last ≡ true → rest ≡ []) → (last ≡ false → 0 < length rest) → (in_turn (map code_of (e ∷ rest))).code ≡ ((code_of e).code ++ after_part last (code_of e).ty) ++ (in_turn (map code_of rest)).code
+turn_is e [] true f g = sym (append_assoc (code_of e).code [] [])
+turn_is e [] false f g = absurd (let h = g refl in omega arith)
+turn_is e (x ∷ rest) true f g = absurd (let h = f refl in cc)
+turn_is e (x ∷ rest) false f g = sym (append_assoc (code_of e).code (discards (code_of e).ty) (in_turn (map code_of (x ∷ rest))).code)
+
+pub turn_next : (es : List Core) (i : ℕ) (e : Core) (last : Bool) → i < length es → e ≡ get_or es i e → (last ≡ true → i + 1 ≡ length es) → (last ≡ false → i + 1 ≡ length es → ⊥) → (in_turn (map code_of (drop i es))).code ≡ ((code_of e).code ++ after_part last e.ty) ++ (in_turn (map code_of (drop (i + 1) es))).code
+turn_next es i e last lt h f g =
+    ap (λ w. (in_turn (map code_of w)).code) (next_part es i e lt h)
+    ∙ turn_is e (drop (i + 1) es) last (λ t. nothing_left es (i + 1) (let k = f t in omega arith)) (λ t. (let k = g t in let l = length-drop (i + 1) es in let m = not_equal (i + 1) (length es) k lt (omega arith) in omega (arith, l, m)))
+    ∙ ap (λ ty. ((code_of e).code ++ after_part last ty) ++ (in_turn (map code_of (drop (i + 1) es))).code) (type_of_code e)
+  where
+    not_equal : (n m : ℕ) → (n ≡ m → ⊥) → i < m → n ≤ m → n < m
+    not_equal n m k l q = ⊎_elim (λ a. a) (λ a. absurd (k (omega arith))) (cases_lt n m)
+
+text_is : (e : Core) (rest : List Core) (first : Bool) → texts_left first (map code_of (e ∷ rest)) ≡ ((code_of e).code ++ after_text first (code_of e).ty) ++ texts_left false (map code_of rest)
+text_is e rest true = sym (append_assoc (code_of e).code (to_text (code_of e).ty) (further_texts (map code_of rest)).code)
+text_is e rest false = sym (append_assoc (code_of e).code (to_text (code_of e).ty ++ Call native_is.TextsConcat ∷ []) (further_texts (map code_of rest)).code)
+
+pub text_next : (es : List Core) (i : ℕ) (e : Core) (first : Bool) → i < length es → e ≡ get_or es i e → texts_left first (map code_of (drop i es)) ≡ ((code_of e).code ++ after_text first e.ty) ++ texts_left false (map code_of (drop (i + 1) es))
+text_next es i e first lt h =
+    ap (λ w. texts_left first (map code_of w)) (next_part es i e lt h) ∙ text_is e (drop (i + 1) es) first
+    ∙ ap (λ ty. ((code_of e).code ++ after_text first ty) ++ texts_left false (map code_of (drop (i + 1) es))) (type_of_code e)
+
+-- code that begins empty
+pub emits_all : (new : List Instr) (p q : Slots) (ops : List Operation) → Emits [] new p q ops → Spells q 0 new ops
+emits_all new p q ops f = subst (λ is. Spells q 0 is ops) (sym f.whole) (f.spells 0)

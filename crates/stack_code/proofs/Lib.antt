@@ -1,0 +1,11 @@
+pub mod Runs
+pub mod Steps
+pub mod Lists
+pub mod Single
+pub mod Operands
+pub mod Several
+pub mod Texts
+pub mod Nodes
+pub mod Placed
+pub mod Agree
+pub mod Emitting

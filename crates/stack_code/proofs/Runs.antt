@@ -1,0 +1,372 @@
+-- How stretches of a run of the machine are put together, beside the meaning of what they run.
+use Rattle.std.proofs.Common.{◌≡◌, ℕ, zero, suc, ◌+◌, ◌*◌, ◌<◌, ◌≤◌, ◌⊎◌, List, [], ◌∷◌, ◌++◌, length, Option, Some, None, Bool, true, false, refl, sym, ap, ◌∙◌, subst, arith}
+use Rattle.std.specs.Prelude.{slice_get, ℤ}
+use Rattle.kc_core.specs.declared.tree.TypeTree.{TypeTree}
+use Rattle.kc_core.specs.declared.tree.TypeTree.TheVariants as type_is
+use Rattle.kc_core.specs.declared.tree.Span.{Span}
+use Rattle.kc_core.specs.Values.{Value, Int, Text, UnitValue, has_type}
+use Rattle.kc_core.specs.Meaning.{State, Completion, Gives, Throws, Stops, Breaks, then_do, enter, checked, if_typed}
+use Rattle.class_file.specs.declared.value.Value.{Value as Slot}
+use Rattle.class_file.specs.declared.value.Value.TheVariants as slot
+use Rattle.class_file.specs.declared.class.Set.{Set}
+use Rattle.class_file.specs.declared.instr.Instr.{Instr}
+use Rattle.class_file.specs.Rows.{length_of}
+use Rattle.class_file.specs.Machine.{Active, Object, TextObject, Next, Going, Over, Threw, step, on_from, fetch, class_pool, is_unhandled, method_at}
+use Rattle.class_file.specs.Runs.{on_add}
+use Rattle.stack_code.specs.Code.{Operation, bytes_of, bytes, StandsFor, Emitted}
+
+-- what was in the heap is there
+pub record Grows (h h' : List Object) : Type 0 where
+  pub stays : (r : ℕ) (ob : Object) → slice_get h r ≡ Some ob → slice_get h' r ≡ Some ob
+
+pub grows_none : (h : List Object) → Grows h h
+grows_none h = record { stays = λ r ob e. e }
+
+pub grows_on : (a b c : List Object) → Grows a b → Grows b c → Grows a c
+grows_on a b c f g = record { stays = λ r ob e. g.stays r ob (f.stays r ob e) }
+
+-- these slots, on the stack, are the value: Unit takes none
+abbrev pub Represents : List Object → Value → List Slot → Type 0
+Represents h (Int z) xs = xs ≡ slot.Int z ∷ []
+Represents h (Text t) xs = (r : ℕ) × (xs ≡ slot.Ref r ∷ []) × (slice_get h r ≡ Some (TextObject t))
+Represents h UnitValue xs = xs ≡ []
+
+-- the same of a value that has a type
+abbrev pub Typed : TypeTree → List Object → Value → List Slot → Type 0
+Typed ty h v xs = (has_type v ty ≡ true) × Represents h v xs
+
+-- what a local variable of the machine holds is the value
+abbrev pub Holds : List Object → Value → Option Slot → Type 0
+Holds h (Int z) o = o ≡ Some (slot.Int z)
+Holds h (Text t) o = (r : ℕ) × (o ≡ Some (slot.Ref r)) × (slice_get h r ≡ Some (TextObject t))
+Holds h UnitValue o = Unit {0}
+
+pub holds_on : (h h' : List Object) (v : Value) (o : Option Slot) → Grows h h' → Holds h v o → Holds h' v o
+holds_on h h' (Int z) o g e = e
+holds_on h h' (Text t) o g e = (e.0, e.1, g.stays e.0 (TextObject t) e.2)
+holds_on h h' UnitValue o g e = tt
+
+pub represents_on : (h h' : List Object) (v : Value) (xs : List Slot) → Grows h h' → Represents h v xs → Represents h' v xs
+represents_on h h' (Int z) xs g e = e
+represents_on h h' (Text t) xs g e = (e.0, e.1, g.stays e.0 (TextObject t) e.2)
+represents_on h h' UnitValue xs g e = e
+
+-- the locals of the machine have those of the meaning
+pub record Held (h : List Object) (ls : List Slot) (locals : List (Option Value)) : Type 0 where
+  pub room : length locals ≤ length ls
+  pub same : (x : ℕ) (v : Value) → slice_get locals x ≡ Some (Some v) → Holds h v (slice_get ls x)
+
+pub held_on : (h h' : List Object) (ls : List Slot) (locals : List (Option Value)) → Grows h h' → Held h ls locals → Held h' ls locals
+held_on h h' ls locals g held = record { room = held.room; same = λ x v e. holds_on h h' v (slice_get ls x) g (held.same x v e) }
+
+-- the method that runs, and the frames that wait below it
+pub record Spot : Type 0 where
+  pub class : ℕ
+  pub method : ℕ
+  pub rest : List Active
+
+-- no frame has handlers
+abbrev pub Unhandled : Set → List Active → Type 0
+Unhandled set [] = Unit {0}
+Unhandled set (f ∷ fs) = (is_unhandled (method_at set f.class f.method) ≡ true) × Unhandled set fs
+
+abbrev pub Quiet : Set → Spot → Type 0
+Quiet set o = (is_unhandled (method_at set o.class o.method) ≡ true) × Unhandled set o.rest
+
+abbrev pub live : Spot → ℕ → List Slot → List Slot → List Object → State → Next
+live o at ls st h s =
+    Going (record { begun = true; frames = record { class = o.class; method = o.method; at = at; locals = ls; stack = st } ∷ o.rest; heap = h; input = s.input; out = s.out })
+
+abbrev pub IsGoing : Next → Type 0
+IsGoing (Going s) = Unit {0}
+IsGoing (Over how out) = ⊥
+
+abbrev pub printed : Next → List ℕ
+printed (Going s) = s.out
+printed (Over how out) = out
+
+-- at a place of the method stands an instruction for the operation
+pub record At (set : Set) (o : Spot) (at : ℕ) (op : Operation) : Type 0 where
+  pub instr : Instr
+  pub fetched : fetch set o.class o.method at ≡ Some instr
+  pub long : length_of instr ≡ bytes_of op
+  pub stands : StandsFor (class_pool set o.class) at instr op
+
+abbrev pub HasAt : Set → Spot → ℕ → List Operation → Type 0
+HasAt set o at [] = Unit {0}
+HasAt set o at (x ∷ xs) = At set o at x × HasAt set o (at + bytes_of x) xs
+
+pub has_front : (set : Set) (o : Spot) (at : ℕ) (a b : List Operation) → HasAt set o at (a ++ b) → HasAt set o at a
+has_front set o at [] b h = tt
+has_front set o at (x ∷ a) b h = (h.0, has_front set o (at + bytes_of x) a b h.1)
+
+pub has_back : (set : Set) (o : Spot) (at : ℕ) (a b : List Operation) → HasAt set o at (a ++ b) → HasAt set o (at + bytes a) b
+has_back set o at [] b h = let e : at ≡ at + 0 = omega arith in subst (λ n. HasAt set o n b) e h
+has_back set o at (x ∷ a) b h =
+    let e : at + bytes_of x + bytes a ≡ at + (bytes_of x + bytes a) = omega arith in
+    subst (λ n. HasAt set o n b) e (has_back set o (at + bytes_of x) a b h.1)
+
+-- a node's size is that of its code
+abbrev pub Sized : Emitted → Type 0
+Sized x = bytes x.code ≡ x.size
+
+-- the steps that a unit of the meaning pays for
+abbrev pub factor : ℕ
+factor = 16
+
+-- S bounds the nodes of the body
+module _ (set : Set) (S : ℕ) where
+  -- The machine comes from c, with u units of the meaning left, to a target in the meaning's state s, in j steps for k units.
+  -- A is what the steps may cost beyond the units' price, less 2; B is how many units may have taken no step.
+  pub record Reaches (c : Next) (h : List Object) (u A B : ℕ) (ls : List Slot) (ok : List Object → List Slot → Type 0) (s : State) (target : List Slot → List Object → List Slot → Next) : Type 0 where
+    pub j : ℕ
+    pub k : ℕ
+    pub ls' : List Slot
+    pub h' : List Object
+    pub xs : List Slot
+    pub runs : on_from set j c ≡ target ls' h' xs
+    pub is : ok h' xs
+    pub grows : Grows h h'
+    pub held : Held h' ls' s.locals
+    pub long : length ls' ≡ length ls
+    pub units : s.units + k ≡ u
+    pub most : j + 2 ≤ factor * k + A
+    pub least : k ≤ B + S * j
+
+  -- the units have run out, and the machine is still on its way
+  pub record Hangs (c : Next) (u A B : ℕ) (s : State) : Type 0 where
+    pub j : ℕ
+    pub c' : Next
+    pub runs : on_from set j c ≡ c'
+    pub going : IsGoing c'
+    pub says : printed c' ≡ s.out
+    pub units : s.units ≡ 0
+    pub most : j ≤ factor * u + A
+    pub least : u ≤ B + S * j
+
+  abbrev pub Rep : Type 1
+  Rep = List Object → Value → List Slot → Type 0
+
+  -- the machine does what the meaning came to; a value's slots are put on the stack st at the place `end`
+  abbrev pub Run : Spot → Rep → Next → List Object → (u A B : ℕ) → List Slot → (end : ℕ) → List Slot → Completion → Type 0
+  Run o rep c h u A B ls end st (Gives v s) = Reaches c h u A B ls (λ h' xs. rep h' v xs) s (λ ls' h' xs. live o end ls' (xs ++ st) h' s)
+  Run o rep c h u A B ls end st (Throws x s) = Reaches c h u A B ls (λ h' xs. Unit {0}) s (λ ls' h' xs. Over (Threw x.class x.message) s.out)
+  Run o rep c h u A B ls end st (Stops s) = Hangs c u A B s
+  Run o rep c h u A B ls end st (Breaks at s) = Unit {0}
+
+  -- behind one stretch, another
+  pub reaches_on : (c : Next) (h : List Object) (u A B A1 B1 A2 B2 : ℕ) (ls : List Slot) (s1 s : State) (ok1 ok : List Object → List Slot → Type 0) (tg1 tg : List Slot → List Object → List Slot → Next) (g : Reaches c h u A1 B1 ls ok1 s1 tg1) → A1 + A2 ≤ A + 2 → B1 + B2 ≤ B → Reaches (tg1 g.ls' g.h' g.xs) g.h' s1.units A2 B2 g.ls' ok s tg → Reaches c h u A B ls ok s tg
+  reaches_on c h u A B A1 B1 A2 B2 ls s1 s ok1 ok tg1 tg g a b r = record {
+    j = g.j + r.j;
+    k = g.k + r.k;
+    ls' = r.ls';
+    h' = r.h';
+    xs = r.xs;
+    is = r.is;
+    grows = grows_on h g.h' r.h' g.grows r.grows;
+    runs = on_add set g.j r.j c ∙ ap (on_from set r.j) g.runs ∙ r.runs;
+    held = r.held;
+    long = r.long ∙ g.long;
+    units = omega (arith, g.units, r.units);
+    most = omega (arith, g.most, r.most);
+    least = omega (arith, g.least, r.least);
+  }
+
+  pub hangs_on : (c : Next) (h : List Object) (u A B A1 B1 A2 B2 : ℕ) (ls : List Slot) (s1 s : State) (ok1 : List Object → List Slot → Type 0) (tg1 : List Slot → List Object → List Slot → Next) (g : Reaches c h u A1 B1 ls ok1 s1 tg1) → A1 + A2 ≤ A + 2 → B1 + B2 ≤ B → Hangs (tg1 g.ls' g.h' g.xs) s1.units A2 B2 s → Hangs c u A B s
+  hangs_on c h u A B A1 B1 A2 B2 ls s1 s ok1 tg1 g a b r = record {
+    j = g.j + r.j;
+    c' = r.c';
+    runs = on_add set g.j r.j c ∙ ap (on_from set r.j) g.runs ∙ r.runs;
+    going = r.going;
+    says = r.says;
+    units = r.units;
+    most = omega (arith, g.units, g.most, r.most);
+    least = omega (arith, g.units, g.least, r.least);
+  }
+
+  -- a run behind a stretch
+  pub run_on : (o : Spot) (rep : Rep) (end : ℕ) (st : List Slot) (c : Next) (h : List Object) (u A B A1 B1 A2 B2 : ℕ) (ls : List Slot) (s1 : State) (ok1 : List Object → List Slot → Type 0) (tg1 : List Slot → List Object → List Slot → Next) (g : Reaches c h u A1 B1 ls ok1 s1 tg1) → A1 + A2 ≤ A + 2 → B1 + B2 ≤ B → (r : Completion) → Run o rep (tg1 g.ls' g.h' g.xs) g.h' s1.units A2 B2 g.ls' end st r → Run o rep c h u A B ls end st r
+  run_on o rep end st c h u A B A1 B1 A2 B2 ls s1 ok1 tg1 g a b (Gives v s) r = reaches_on c h u A B A1 B1 A2 B2 ls s1 s ok1 _ tg1 _ g a b r
+  run_on o rep end st c h u A B A1 B1 A2 B2 ls s1 ok1 tg1 g a b (Throws x s) r = reaches_on c h u A B A1 B1 A2 B2 ls s1 s ok1 _ tg1 _ g a b r
+  run_on o rep end st c h u A B A1 B1 A2 B2 ls s1 ok1 tg1 g a b (Stops s) r = hangs_on c h u A B A1 B1 A2 B2 ls s1 s ok1 tg1 g a b r
+  run_on o rep end st c h u A B A1 B1 A2 B2 ls s1 ok1 tg1 g a b (Breaks at s) r = tt
+
+  pub reaches_weak : (c : Next) (h : List Object) (u A B A1 B1 : ℕ) (ls : List Slot) (s : State) (ok : List Object → List Slot → Type 0) (tg : List Slot → List Object → List Slot → Next) → A1 ≤ A → B1 ≤ B → Reaches c h u A1 B1 ls ok s tg → Reaches c h u A B ls ok s tg
+  reaches_weak c h u A B A1 B1 ls s ok tg a b r = record {
+    j = r.j;
+    k = r.k;
+    ls' = r.ls';
+    h' = r.h';
+    xs = r.xs;
+    runs = r.runs;
+    is = r.is;
+    grows = r.grows;
+    held = r.held;
+    long = r.long;
+    units = r.units;
+    most = omega (arith, r.most);
+    least = omega (arith, r.least);
+  }
+
+  pub hangs_weak : (c : Next) (u A B A1 B1 : ℕ) (s : State) → A1 ≤ A → B1 ≤ B → Hangs c u A1 B1 s → Hangs c u A B s
+  hangs_weak c u A B A1 B1 s a b r = record {
+    j = r.j;
+    c' = r.c';
+    runs = r.runs;
+    going = r.going;
+    says = r.says;
+    units = r.units;
+    most = omega (arith, r.most);
+    least = omega (arith, r.least);
+  }
+
+  -- a node's part first, and then what its value is for
+  pub bind : (o : Spot) (rep1 rep : Rep) (end1 end : ℕ) (st1 st : List Slot) (c : Next) (h : List Object) (u A B A1 B1 : ℕ) (ls : List Slot) → A1 ≤ A → B1 ≤ B → (go : Value → State → Completion) → ((v : Value) (s1 : State) → Reaches c h u A1 B1 ls (λ h' xs. rep1 h' v xs) s1 (λ ls' h' xs. live o end1 ls' (xs ++ st1) h' s1) → Run o rep c h u A B ls end st (go v s1)) → (r : Completion) → Run o rep1 c h u A1 B1 ls end1 st1 r → Run o rep c h u A B ls end st (then_do r go)
+  bind o rep1 rep end1 end st1 st c h u A B A1 B1 ls a b go then' (Gives v s) r = then' v s r
+  bind o rep1 rep end1 end st1 st c h u A B A1 B1 ls a b go then' (Throws x s) r = reaches_weak c h u A B A1 B1 ls s _ _ a b r
+  bind o rep1 rep end1 end st1 st c h u A B A1 B1 ls a b go then' (Stops s) r = hangs_weak c u A B A1 B1 s a b r
+  bind o rep1 rep end1 end st1 st c h u A B A1 B1 ls a b go then' (Breaks at s) r = tt
+
+  -- m steps of the machine for which no unit is taken
+  pub own : (m : ℕ) (c : Next) (h : List Object) (A B : ℕ) (ls ls' : List Slot) (h' : List Object) (xs : List Slot) (ok : List Object → List Slot → Type 0) (s : State) (tg : List Slot → List Object → List Slot → Next) → m + 2 ≤ A → on_from set m c ≡ tg ls' h' xs → ok h' xs → Grows h h' → Held h' ls' s.locals → length ls' ≡ length ls → Reaches c h s.units A B ls ok s tg
+  own m c h A B ls ls' h' xs ok s tg le runs is grows held long = record {
+    j = m;
+    k = 0;
+    ls' = ls';
+    h' = h';
+    xs = xs;
+    runs = runs;
+    is = is;
+    grows = grows;
+    held = held;
+    long = long;
+    units = omega arith;
+    most = omega arith;
+    least = omega arith;
+  }
+
+  -- a run behind m steps for which no unit is taken
+  pub run_own : (m : ℕ) (o : Spot) (rep : Rep) (end : ℕ) (st : List Slot) (c c1 : Next) (h h1 : List Object) (A A2 B : ℕ) (ls ls1 : List Slot) (s : State) → m + A2 ≤ A → on_from set m c ≡ c1 → Grows h h1 → Held h1 ls1 s.locals → length ls1 ≡ length ls → (r : Completion) → Run o rep c1 h1 s.units A2 B ls1 end st r → Run o rep c h s.units A B ls end st r
+  run_own m o rep end st c c1 h h1 A A2 B ls ls1 s le runs grows held long r rest =
+      run_on o rep end st c h s.units A B (m + 2) 0 A2 B ls s (λ h' xs. Unit {0}) (λ ls' h' xs. c1)
+      (record { j = m; k = 0; ls' = ls1; h' = h1; xs = []; runs = runs; is = tt; grows = grows; held = held; long = long; units = omega arith; most = omega arith; least = omega arith })
+      (omega arith) (omega arith) r rest
+
+  pub ends_at : (o : Spot) (rep : Rep) (c : Next) (h : List Object) (u A B : ℕ) (ls : List Slot) (end1 end : ℕ) (st : List Slot) (r : Completion) → end1 ≡ end → Run o rep c h u A B ls end1 st r → Run o rep c h u A B ls end st r
+  ends_at o rep c h u A B ls end1 end st r e g = subst (λ x. Run o rep c h u A B ls x st r) e g
+
+  -- with more to spend, up to another name of the same place
+  pub wider : (o : Spot) (end1 end : ℕ) (c : Next) (h : List Object) (u A1 A B : ℕ) (ls st : List Slot) (r : Completion) → A1 ≤ A → end1 ≡ end → Run o Represents c h u A1 B ls end1 st r → Run o Represents c h u A B ls end st r
+  wider o end1 end c h u A1 A B ls st r le e g = ends_at o Represents c h u A B ls end1 end st r e (by_case r g)
+    where
+      by_case : (r : Completion) → Run o Represents c h u A1 B ls end1 st r → Run o Represents c h u A B ls end1 st r
+      by_case (Gives v s) g = reaches_weak c h u A B A1 B ls s _ _ le (omega arith) g
+      by_case (Throws x s) g = reaches_weak c h u A B A1 B ls s _ _ le (omega arith) g
+      by_case (Stops s) g = hangs_weak c u A B A1 B s le (omega arith) g
+      by_case (Breaks at s) g = tt
+
+  -- what a node finds
+  pub record Ready (d : ℕ) (x : Emitted) (s : State) (o : Spot) (at : ℕ) (ls : List Slot) (h : List Object) : Type 0 where
+    pub deep : s.units ≤ d
+    pub small : x.nodes ≤ S
+    pub code : HasAt set o at x.code
+    pub held : Held h ls s.locals
+    pub quiet : Quiet set o
+
+  -- the code does what the node does
+  abbrev pub Follows : ℕ → Emitted → (State → Completion) → Type 0
+  Follows d x f = (s : State) (o : Spot) (at : ℕ) (ls st : List Slot) (h : List Object) → Ready d x s o at ls h → Run o (Typed x.ty) (live o at ls st h s) h s.units 0 x.nodes ls (at + x.size) st (f s)
+
+  -- the same behind the node's own unit, and before its value is checked
+  abbrev pub Inside : ℕ → ℕ → Emitted → (State → Completion) → Type 0
+  Inside d b x g = (s : State) (o : Spot) (at : ℕ) (ls st : List Slot) (h : List Object) → Ready d x s o at ls h → Run o Represents (live o at ls st h s) h s.units factor b ls (at + x.size) st (g s)
+
+  unit_reaches : (c : Next) (h : List Object) (u u1 b B : ℕ) (ls : List Slot) (s : State) (ok : List Object → List Slot → Type 0) (tg : List Slot → List Object → List Slot → Next) → u ≡ suc u1 → b + 1 ≤ B → Reaches c h u1 factor b ls ok s tg → Reaches c h u 0 B ls ok s tg
+  unit_reaches c h u u1 b B ls s ok tg e le r = record {
+    j = r.j;
+    k = r.k + 1;
+    ls' = r.ls';
+    h' = r.h';
+    xs = r.xs;
+    runs = r.runs;
+    is = r.is;
+    grows = r.grows;
+    held = r.held;
+    long = r.long;
+    units = omega (arith, r.units);
+    most = omega (arith, r.most);
+    least = omega (arith, r.least);
+  }
+
+  unit_hangs : (c : Next) (u u1 b B : ℕ) (s : State) → u ≡ suc u1 → b + 1 ≤ B → Hangs c u1 factor b s → Hangs c u 0 B s
+  unit_hangs c u u1 b B s e le r = record {
+    j = r.j;
+    c' = r.c';
+    runs = r.runs;
+    going = r.going;
+    says = r.says;
+    units = r.units;
+    most = omega (arith, r.most);
+    least = omega (arith, r.least);
+  }
+
+  -- a unit is taken
+  unit_run : (o : Spot) (rep : Rep) (end : ℕ) (st : List Slot) (c : Next) (h : List Object) (u u1 b B : ℕ) (ls : List Slot) → u ≡ suc u1 → b + 1 ≤ B → (r : Completion) → Run o rep c h u1 factor b ls end st r → Run o rep c h u 0 B ls end st r
+  unit_run o rep end st c h u u1 b B ls e le (Gives v s) r = unit_reaches c h u u1 b B ls s _ _ e le r
+  unit_run o rep end st c h u u1 b B ls e le (Throws x s) r = unit_reaches c h u u1 b B ls s _ _ e le r
+  unit_run o rep end st c h u u1 b B ls e le (Stops s) r = unit_hangs c u u1 b B s e le r
+  unit_run o rep end st c h u u1 b B ls e le (Breaks at s) r = tt
+
+  retyped : (c : Next) (h : List Object) (u A B : ℕ) (ls : List Slot) (s : State) (ok ok1 : List Object → List Slot → Type 0) (tg : List Slot → List Object → List Slot → Next) → ((h' : List Object) (xs : List Slot) → ok h' xs → ok1 h' xs) → Reaches c h u A B ls ok s tg → Reaches c h u A B ls ok1 s tg
+  retyped c h u A B ls s ok ok1 tg f r = record {
+    j = r.j;
+    k = r.k;
+    ls' = r.ls';
+    h' = r.h';
+    xs = r.xs;
+    runs = r.runs;
+    is = f r.h' r.xs r.is;
+    grows = r.grows;
+    held = r.held;
+    long = r.long;
+    units = r.units;
+    most = r.most;
+    least = r.least;
+  }
+
+  if_typed_run : (o : Spot) (ty : TypeTree) (span : Span) (c : Next) (h : List Object) (u A B : ℕ) (ls : List Slot) (end : ℕ) (st : List Slot) (v : Value) (s : State) (b : Bool) → has_type v ty ≡ b → Run o Represents c h u A B ls end st (Gives v s) → Run o (Typed ty) c h u A B ls end st (if_typed b span v s)
+  if_typed_run o ty span c h u A B ls end st v s true e r = retyped c h u A B ls s _ _ _ (λ h' xs is. (e, is)) r
+  if_typed_run o ty span c h u A B ls end st v s false e r = tt
+
+  -- a value is checked against the node's type
+  checked_run : (o : Spot) (ty : TypeTree) (span : Span) (c : Next) (h : List Object) (u A B : ℕ) (ls : List Slot) (end : ℕ) (st : List Slot) (r : Completion) → Run o Represents c h u A B ls end st r → Run o (Typed ty) c h u A B ls end st (then_do r (checked span ty))
+  checked_run o ty span c h u A B ls end st (Gives v s) r = if_typed_run o ty span c h u A B ls end st v s (has_type v ty) refl r
+  checked_run o ty span c h u A B ls end st (Throws x s) r = r
+  checked_run o ty span c h u A B ls end st (Stops s) r = r
+  checked_run o ty span c h u A B ls end st (Breaks at s) r = tt
+
+  -- the same with the check
+  abbrev pub Checked : ℕ → ℕ → Emitted → (State → Completion) → Type 0
+  Checked d b x f = (s : State) (o : Spot) (at : ℕ) (ls st : List Slot) (h : List Object) → Ready d x s o at ls h → Run o (Typed x.ty) (live o at ls st h s) h s.units factor b ls (at + x.size) st (f s)
+
+  pub with_check : (d b : ℕ) (x : Emitted) (span : Span) (g : State → Completion) → Inside d b x g → Checked d b x (λ s. then_do (g s) (checked span x.ty))
+  with_check d b x span g inside s o at ls st h ready =
+      checked_run o x.ty span (live o at ls st h s) h s.units factor b ls (at + x.size) st (g s) (inside s o at ls st h ready)
+
+  pub entered : (d b : ℕ) (x : Emitted) (f : State → Completion) → b + 1 ≤ x.nodes → Checked d b x f → Follows (suc d) x (λ s. enter s.units s f)
+  entered d b x f le inside s o at ls st h ready = by_units s.units refl
+    where
+      c : Next
+      c = live o at ls st h s
+
+      by_units : (u : ℕ) → s.units ≡ u → Run o (Typed x.ty) c h s.units 0 x.nodes ls (at + x.size) st (enter u s f)
+      by_units zero e = record { j = 0; c' = c; runs = refl; going = tt; says = refl; units = e; most = omega arith; least = omega (arith, e) }
+      by_units (suc u) e =
+          unit_run o (Typed x.ty) (at + x.size) st c h s.units u b x.nodes ls e le _
+          (inside (record s { units = u }) o at ls st h
+          (record { deep = omega (arith, e, ready.deep); small = ready.small; code = ready.code; held = ready.held; quiet = ready.quiet }))
+
+  -- no depth is left, and so no unit
+  pub follows_none : (x : Emitted) → Follows zero x (λ s. Stops s)
+  follows_none x s o at ls st h ready =
+      record { j = 0; c' = live o at ls st h s; runs = refl; going = tt; says = refl; units = omega (arith, ready.deep); most = omega arith; least = omega (arith, ready.deep) }

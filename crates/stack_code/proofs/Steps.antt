@@ -1,0 +1,122 @@
+-- What the machine does at an instruction for each operation.
+use Rattle.std.proofs.Common.{◌≡◌, ℕ, zero, suc, ◌+◌, ◌<◌, ◌≤◌, ◌⊎◌, inl, inr, List, [], ◌∷◌, ◌++◌, length, Option, Some, None, Bool, true, false, refl, sym, ap, ◌∙◌, subst, arith, ⊎_elim}
+use Rattle.std.specs.Prelude.{slice_get, slice_set, ℤ, nat_lt, if◌then◌else◌}
+use Rattle.std.specs.Fmt.{signed_decimal}
+use Rattle.std.specs.Int.{w32, int_wrapping_neg}
+use Rattle.kc_text.specs.Unicode.{utf8_of}
+use Rattle.kc_core.specs.Meaning.{State as Known}
+use Rattle.class_file.specs.declared.value.Value.{Value as Slot}
+use Rattle.class_file.specs.declared.value.Value.TheVariants as slot
+use Rattle.class_file.specs.declared.value.Kind.{Kind as SlotKind}
+use Rattle.class_file.specs.declared.value.Kind.TheVariants as kinds
+use Rattle.class_file.specs.declared.value.NativeId.{NativeId}
+use Rattle.class_file.specs.declared.value.NativeId.TheVariants as native_is
+use Rattle.class_file.specs.declared.row.Row.{Row}
+use Rattle.class_file.specs.declared.row.Row.TheVariants as row
+use Rattle.class_file.specs.declared.row.Operator.{Operator}
+use Rattle.class_file.specs.declared.class.Set.{Set}
+use Rattle.class_file.specs.declared.class.Method.{Method}
+use Rattle.class_file.specs.declared.instr.Instr.{Instr}
+use Rattle.class_file.specs.Rows.{length_of, row_of}
+use Rattle.class_file.specs.Pools.{Constant, Number, Literal}
+use Rattle.class_file.specs.Machine.{Active, Object, TextObject, State, Next, Going, Over, Ended, step, on_from, fetch, resolve, constant, class_pool, effect, after, executed, loaded, invoked, native_step, native_effect, has_kind, on_kind, on_local, is_narrow, int_answer, or_zero_divisor, thrown, handed, made, text_of, on_text, places, stored, method_at, Effect, Goes, Fails, NativeEffect, MakesText, Writes, NativeFails}
+use Rattle.stack_code.specs.Code.{Operation, PushInt, PushText, Load, Store, Compute, Negate, Discard, Call, Leave, bytes_of, StandsFor}
+use Rattle.stack_code.proofs.Runs.{Grows, Spot, Quiet, live, At}
+
+-- the running frame
+abbrev pub frame : Spot → ℕ → List Slot → List Slot → Active
+frame o at ls st = record { class = o.class; method = o.method; at = at; locals = ls; stack = st }
+
+abbrev pub state : Spot → ℕ → List Slot → List Slot → List Object → Known → State
+state o at ls st h s = record { begun = true; frames = frame o at ls st ∷ o.rest; heap = h; input = s.input; out = s.out }
+
+text_found : (h : List Object) (r : ℕ) (t : List ℕ) (w : Option Object) → w ≡ Some (TextObject t) → (elim w as (λ _. Option (List ℕ)) [ Some (TextObject units) ↦ Some units | None ↦ None ]) ≡ Some t
+text_found h r t w e = ap (λ (w : Option Object). elim w as (λ _. Option (List ℕ)) [ Some (TextObject units) ↦ Some units | None ↦ None ]) e
+
+given : (w : Option (List ℕ)) (t : List ℕ) (rest : List Slot) (go : List ℕ → List Slot → NativeEffect) → w ≡ Some t → (elim w as (λ _. NativeEffect) [ Some units ↦ go units rest | None ↦ NativeFails ]) ≡ go t rest
+given w t rest go e = ap (λ (w : Option (List ℕ)). elim w as (λ _. NativeEffect) [ Some units ↦ go units rest | None ↦ NativeFails ]) e
+
+takes_text : (h : List Object) (r : ℕ) (t : List ℕ) (rest : List Slot) (go : List ℕ → List Slot → NativeEffect) → slice_get h r ≡ Some (TextObject t) → on_text h (slot.Ref r ∷ rest) go ≡ go t rest
+takes_text h r t rest go e = given (text_of h r) t rest go (text_found h r t (slice_get h r) e)
+
+module _ (set : Set) (o : Spot) where
+  -- a step is what the effect of the instruction's row makes of the state
+  executes : (at : ℕ) (ls st : List Slot) (h : List Object) (s : Known) (op : Operation) (a : At set o at op) → on_from set 1 (live o at ls st h s) ≡ after set (state o at ls st h s) (frame o at ls st) o.rest (at + bytes_of op) (effect (row_of at a.instr) (at + bytes_of op) ls st)
+  unfolding step
+  executes at ls st h s op a =
+      ap (executed set (state o at ls st h s) (frame o at ls st) o.rest) a.fetched
+      ∙ ap (λ n. after set (state o at ls st h s) (frame o at ls st) o.rest (at + n) (effect (row_of at a.instr) (at + n) ls st)) a.long
+
+  -- the same by the row
+  by_row : (at : ℕ) (ls st : List Slot) (h : List Object) (s : Known) (op : Operation) (a : At set o at op) (r : Row) → row_of at a.instr ≡ r → on_from set 1 (live o at ls st h s) ≡ after set (state o at ls st h s) (frame o at ls st) o.rest (at + bytes_of op) (effect r (at + bytes_of op) ls st)
+  by_row at ls st h s op a r e = executes at ls st h s op a ∙ ap (λ x. after set (state o at ls st h s) (frame o at ls st) o.rest (at + bytes_of op) (effect x (at + bytes_of op) ls st)) e
+
+  by_constant : (at : ℕ) (ls st : List Slot) (h : List Object) (s : Known) (op : Operation) (a : At set o at op) (k : ℕ) (c : Constant) → row_of at a.instr ≡ row.PushConstant k → constant set o.class k ≡ Some c → on_from set 1 (live o at ls st h s) ≡ loaded (state o at ls st h s) (frame o at ls st) o.rest (at + bytes_of op) (Some c)
+  by_constant at ls st h s op a k c e f = by_row at ls st h s op a (row.PushConstant k) e ∙ ap (loaded (state o at ls st h s) (frame o at ls st) o.rest (at + bytes_of op)) f
+
+  pub push_int : (at : ℕ) (ls st : List Slot) (h : List Object) (s : Known) (z : ℤ) → At set o at (PushInt z) → on_from set 1 (live o at ls st h s) ≡ live o (at + bytes_of (PushInt z)) ls (slot.Int z ∷ st) h s
+  unfolding constant
+  push_int at ls st h s z a =
+      ⊎_elim (λ e. by_row at ls st h s (PushInt z) a (row.PushInt z) e) (λ p. by_constant at ls st h s (PushInt z) a p.0 (Number z) p.1 p.2) a.stands
+
+  pub push_text : (at : ℕ) (ls st : List Slot) (h : List Object) (s : Known) (t : List ℕ) → At set o at (PushText t) → on_from set 1 (live o at ls st h s) ≡ live o (at + 3) ls (slot.Ref (length h) ∷ st) (h ++ TextObject t ∷ []) s
+  unfolding constant
+  push_text at ls st h s t a = by_constant at ls st h s (PushText t) a a.stands.0 (Literal t) a.stands.1 a.stands.2
+
+  pub load : (at : ℕ) (ls st : List Slot) (h : List Object) (s : Known) (k : SlotKind) (x : ℕ) (v : Slot) → At set o at (Load k x) → slice_get ls x ≡ Some v → has_kind k v ≡ true → on_from set 1 (live o at ls st h s) ≡ live o (at + bytes_of (Load k x)) ls (v ∷ st) h s
+  load at ls st h s k x v a e f =
+      by_row at ls st h s (Load k x) a (row.Load k x) a.stands
+      ∙ ap (after set (state o at ls st h s) (frame o at ls st) o.rest (at + bytes_of (Load k x))) (found (slice_get ls x) v e)
+      ∙ ap (λ b. after set (state o at ls st h s) (frame o at ls st) o.rest (at + bytes_of (Load k x)) (if b then Goes (at + bytes_of (Load k x)) ls (v ∷ st) else Fails)) f
+    where
+      found : (w : Option Slot) (v : Slot) → w ≡ Some v → (elim w [ Some v ↦ if has_kind k v then Goes (at + bytes_of (Load k x)) ls (v ∷ st) else Fails | None ↦ Fails ]) ≡ (if has_kind k v then Goes (at + bytes_of (Load k x)) ls (v ∷ st) else Fails)
+      found w v e = rw e refl
+
+  pub negate : (at : ℕ) (ls st : List Slot) (h : List Object) (s : Known) (z : ℤ) → At set o at Negate → on_from set 1 (live o at ls (slot.Int z ∷ st) h s) ≡ live o (at + 1) ls (slot.Int (int_wrapping_neg w32 z) ∷ st) h s
+  negate at ls st h s z a = by_row at ls (slot.Int z ∷ st) h s Negate a row.IntNeg a.stands
+
+  pub discard : (at : ℕ) (ls st : List Slot) (h : List Object) (s : Known) (v : Slot) → At set o at Discard → is_narrow v ≡ true → on_from set 1 (live o at ls (v ∷ st) h s) ≡ live o (at + 1) ls st h s
+  discard at ls st h s v a e =
+      by_row at ls (v ∷ st) h s Discard a row.Pop a.stands
+      ∙ ap (λ b. after set (state o at ls (v ∷ st) h s) (frame o at ls (v ∷ st)) o.rest (at + 1) (if b then Goes (at + 1) ls st else Fails)) e
+
+  pub compute : (at : ℕ) (ls st : List Slot) (h : List Object) (s : Known) (p : Operator) (x y : ℤ) → At set o at (Compute p) → on_from set 1 (live o at ls (slot.Int y ∷ slot.Int x ∷ st) h s) ≡ after set (state o at ls (slot.Int y ∷ slot.Int x ∷ st) h s) (frame o at ls (slot.Int y ∷ slot.Int x ∷ st)) o.rest (at + 1) (or_zero_divisor (int_answer p x y) (λ n. Goes (at + 1) ls (slot.Int n ∷ st)))
+  compute at ls st h s p x y a = by_row at ls (slot.Int y ∷ slot.Int x ∷ st) h s (Compute p) a (row.IntBinary p) a.stands
+
+  -- a store of a value that takes one place
+  pub store : (at : ℕ) (ls st : List Slot) (h : List Object) (s : Known) (k : SlotKind) (x : ℕ) (v : Slot) → At set o at (Store k x) → has_kind k v ≡ true → nat_lt (length ls) (x + places k) ≡ false → stored k x v ls ≡ slice_set ls x v → on_from set 1 (live o at ls (v ∷ st) h s) ≡ live o (at + bytes_of (Store k x)) (slice_set ls x v) st h s
+  store at ls st h s k x v a e f g =
+      by_row at ls (v ∷ st) h s (Store k x) a (row.Store k x) a.stands
+      ∙ ap (λ b. A (if b then (if nat_lt (length ls) (x + places k) then Fails else Goes n (stored k x v ls) st) else Fails)) e
+      ∙ ap (λ b. A (if b then Fails else Goes n (stored k x v ls) st)) f
+      ∙ ap (λ l. A (Goes n l st)) g
+    where
+      n : ℕ
+      n = at + bytes_of (Store k x)
+
+      A : Effect → Next
+      A w = after set (state o at ls (v ∷ st) h s) (frame o at ls (v ∷ st)) o.rest (at + bytes_of (Store k x)) w
+
+  by_call : (at : ℕ) (ls st : List Slot) (h : List Object) (s : Known) (m : NativeId) → At set o at (Call m) → on_from set 1 (live o at ls st h s) ≡ native_step set (state o at ls st h s) (frame o at ls st) o.rest (at + 3) (native_effect m h st)
+  unfolding resolve
+  by_call at ls st h s m a =
+      by_row at ls st h s (Call m) a (row.InvokeStatic a.stands.0) a.stands.1
+      ∙ ap (invoked set (state o at ls st h s) (frame o at ls st) o.rest (at + 3)) a.stands.2
+
+  pub call_of_int : (at : ℕ) (ls st : List Slot) (h : List Object) (s : Known) (z : ℤ) → At set o at (Call native_is.TextsOfInt) → on_from set 1 (live o at ls (slot.Int z ∷ st) h s) ≡ live o (at + 3) ls (slot.Ref (length h) ∷ st) (h ++ TextObject (signed_decimal z) ∷ []) s
+  call_of_int at ls st h s z a = by_call at ls (slot.Int z ∷ st) h s native_is.TextsOfInt a
+
+  pub call_concat : (at : ℕ) (ls st : List Slot) (h : List Object) (s : Known) (r q : ℕ) (t u : List ℕ) → At set o at (Call native_is.TextsConcat) → slice_get h r ≡ Some (TextObject t) → slice_get h q ≡ Some (TextObject u) → on_from set 1 (live o at ls (slot.Ref q ∷ slot.Ref r ∷ st) h s) ≡ live o (at + 3) ls (slot.Ref (length h) ∷ st) (h ++ TextObject (t ++ u) ∷ []) s
+  call_concat at ls st h s r q t u a e f =
+      by_call at ls (slot.Ref q ∷ slot.Ref r ∷ st) h s native_is.TextsConcat a
+      ∙ ap (native_step set (state o at ls (slot.Ref q ∷ slot.Ref r ∷ st) h s) (frame o at ls (slot.Ref q ∷ slot.Ref r ∷ st)) o.rest (at + 3))
+      (takes_text h q u (slot.Ref r ∷ st) (λ second below. on_text h below (λ first rest. MakesText (first ++ second) rest)) f ∙ takes_text h r t st (λ first rest. MakesText (first ++ u) rest) e)
+
+  pub call_write : (at : ℕ) (ls st : List Slot) (h : List Object) (s : Known) (r : ℕ) (t : List ℕ) → At set o at (Call native_is.ConsoleWrite) → slice_get h r ≡ Some (TextObject t) → on_from set 1 (live o at ls (slot.Ref r ∷ st) h s) ≡ live o (at + 3) ls st h (record s { out = s.out ++ utf8_of t })
+  call_write at ls st h s r t a e =
+      by_call at ls (slot.Ref r ∷ st) h s native_is.ConsoleWrite a
+      ∙ ap (native_step set (state o at ls (slot.Ref r ∷ st) h s) (frame o at ls (slot.Ref r ∷ st)) o.rest (at + 3)) (takes_text h r t st (λ units rest. Writes (utf8_of units) rest) e)
+
+  -- a return without value
+  pub leave : (at : ℕ) (ls st : List Slot) (h : List Object) (s : Known) → At set o at Leave → on_from set 1 (live o at ls st h s) ≡ handed set (state o at ls st h s) [] o.rest
+  leave at ls st h s a = by_row at ls st h s Leave a row.Return a.stands

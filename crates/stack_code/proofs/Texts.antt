@@ -1,0 +1,220 @@
+-- Texts that are put together, and calls of natives: their code does what they do.
+use Rattle.std.proofs.Common.{◌≡◌, ℕ, zero, suc, ◌+◌, ◌*◌, ◌<◌, ◌≤◌, List, [], ◌∷◌, ◌++◌, length, map, Option, Some, None, Bool, true, false, refl, sym, ap, ◌∙◌, subst, arith}
+use Rattle.std.specs.Prelude.{slice_get, ℤ}
+use Rattle.std.specs.Fmt.{signed_decimal}
+use Rattle.kc_text.specs.Unicode.{utf8_of}
+use Rattle.kc_core.specs.declared.tree.TypeTree.{TypeTree}
+use Rattle.kc_core.specs.declared.tree.TypeTree.TheVariants as type_is
+use Rattle.kc_core.specs.declared.tree.Native.TheVariants as native_kind
+use Rattle.kc_core.specs.declared.tree.Span.{Span}
+use Rattle.kc_core.specs.declared.tree.Core.{Core}
+use Rattle.kc_core.specs.Values.{Value, Int, Text, UnitValue, text_of}
+use Rattle.kc_core.specs.Meaning.{State, Completion, Gives, then_do, enter, checked, joined, operands, on_text, native}
+use Rattle.class_file.specs.declared.value.Value.{Value as Slot}
+use Rattle.class_file.specs.declared.value.Value.TheVariants as slot
+use Rattle.class_file.specs.declared.value.NativeId.TheVariants as native_is
+use Rattle.class_file.specs.declared.class.Set.{Set}
+use Rattle.class_file.specs.Machine.{Object, TextObject, Next, on_from}
+use Rattle.stack_code.specs.Code.{Operation, PushText, Call, bytes_of, bytes, Emitted, Several, nothing, followed, further_texts, texts, values, whole, to_text, code_of}
+use Rattle.stack_code.proofs.Runs.{Grows, grows_none, grows_on, Represents, represents_on, Typed, Held, held_on, Spot, Quiet, live, HasAt, has_front, has_back, Sized, factor, Reaches, Run, Rep, run_on, run_own, bind, own, ends_at, wider, Ready, Follows, Inside, with_check, entered}
+use Rattle.stack_code.proofs.Steps.{push_text, call_of_int, call_concat, call_write}
+use Rattle.stack_code.proofs.Lists.{bytes_append, get_new, grows_more}
+use Rattle.stack_code.proofs.Several.{AllSized, Readies, first_ready, between_at, more_ready, Does}
+
+-- these values stand on the stack, over another one
+abbrev pub Stacked : List Object → List Value → List Slot → List Slot → Type 0
+Stacked h [] below st = st ≡ below
+Stacked h (v ∷ vs) below st = (xs : List Slot) × Represents h v xs × Stacked h vs (xs ++ below) st
+
+module _ (set : Set) (S : ℕ) (d : ℕ) (ev : Core → State → Completion) (sized : (e : Core) → Sized (code_of e)) (ih : (e : Core) → Follows set S d (code_of e) (ev e)) where
+  -- what the texts behind the first one do, over the text so far
+  abbrev Further : Several → (List ℕ → State → Completion) → Type 0
+  Further x f = (text : List ℕ) (r : ℕ) (s : State) (o : Spot) (at : ℕ) (ls st : List Slot) (h : List Object) → slice_get h r ≡ Some (TextObject text) → Readies set S d ev sized ih x s o at ls h → Run set S o Represents (live o at ls (slot.Ref r ∷ st) h s) h s.units 2 x.nodes ls (at + x.size) st (f text s)
+
+  -- a value becomes a text and comes behind the text below it
+  appended : (o : Spot) (at end : ℕ) (ls st : List Slot) (h : List Object) (s : State) (B : ℕ) (span : Span) (ty : TypeTree) (v : Value) (xs : List Slot) (r : ℕ) (text : List ℕ) (go : List ℕ → State → Completion) → HasAt set o at (to_text ty ++ Call native_is.TextsConcat ∷ []) → Typed ty h v xs → Held h ls s.locals → slice_get h r ≡ Some (TextObject text) → ((u : List ℕ) (h1 : List Object) (q : ℕ) → Held h1 ls s.locals → slice_get h1 q ≡ Some (TextObject (text ++ u)) → Run set S o Represents (live o (at + bytes (to_text ty ++ Call native_is.TextsConcat ∷ [])) ls (slot.Ref q ∷ st) h1 s) h1 s.units 2 B ls end st (go (text ++ u) s)) → Run set S o Represents (live o at ls (xs ++ (slot.Ref r ∷ st)) h s) h s.units 4 B ls end st (on_text span (text_of v) (λ u. go (text ++ u)) s)
+  appended o at end ls st h s B span type_is.Int (Int z) xs r text go code is held there run =
+      run_own set S 2 o Represents end st (live o at ls (xs ++ (slot.Ref r ∷ st)) h s) (live o (at + 6) ls (slot.Ref (length h1) ∷ st) h2 s) h h2 4 2 B ls ls s (omega arith)
+      (ap (λ ys. on_from set 2 (live o at ls (ys ++ (slot.Ref r ∷ st)) h s)) is.1 ∙ ap (on_from set 1) (call_of_int set o at ls (slot.Ref r ∷ st) h s z code.0)
+      ∙ call_concat set o (at + 3) ls st h1 s r (length h) text (signed_decimal z) code.1.0 ((grows_more h (TextObject (signed_decimal z))).stays r (TextObject text) there) (get_new h (TextObject (signed_decimal z)))
+      ∙ (let e : at + 3 + 3 ≡ at + 6 = omega arith in ap (λ n. live o n ls (slot.Ref (length h1) ∷ st) h2 s) e))
+      grown held2 refl (go (text ++ signed_decimal z) s)
+      (run (signed_decimal z) h2 (length h1) held2 (get_new h1 (TextObject (text ++ signed_decimal z))))
+    where
+      h1 : List Object
+      h1 = h ++ TextObject (signed_decimal z) ∷ []
+
+      h2 : List Object
+      h2 = h1 ++ TextObject (text ++ signed_decimal z) ∷ []
+
+      grown : Grows h h2
+      grown = grows_on h h1 h2 (grows_more h (TextObject (signed_decimal z))) (grows_more h1 (TextObject (text ++ signed_decimal z)))
+
+      held2 : Held h2 ls s.locals
+      held2 = held_on h h2 ls s.locals grown held
+  appended o at end ls st h s B span type_is.String (Text t) xs r text go code is held there run =
+      run_own set S 1 o Represents end st (live o at ls (xs ++ (slot.Ref r ∷ st)) h s) (live o (at + 3) ls (slot.Ref (length h) ∷ st) h1 s) h h1 4 2 B ls ls s (omega arith)
+      (ap (λ ys. on_from set 1 (live o at ls (ys ++ (slot.Ref r ∷ st)) h s)) is.1.1 ∙ call_concat set o at ls st h s r is.1.0 text t code.0 there is.1.2)
+      (grows_more h (TextObject (text ++ t))) held1 refl (go (text ++ t) s)
+      (run t h1 (length h) held1 (get_new h (TextObject (text ++ t))))
+    where
+      h1 : List Object
+      h1 = h ++ TextObject (text ++ t) ∷ []
+
+      held1 : Held h1 ls s.locals
+      held1 = held_on h h1 ls s.locals (grows_more h (TextObject (text ++ t))) held
+  appended o at end ls st h s B span type_is.Unit UnitValue xs r text go code is held there run = tt
+  appended o at end ls st h s B span type_is.Int (Text t) xs r text go code is held there run = absurd (let q = is.0 in cc)
+  appended o at end ls st h s B span type_is.Int UnitValue xs r text go code is held there run = tt
+  appended o at end ls st h s B span type_is.String (Int z) xs r text go code is held there run = absurd (let q = is.0 in cc)
+  appended o at end ls st h s B span type_is.String UnitValue xs r text go code is held there run = tt
+  appended o at end ls st h s B span type_is.Unit (Int z) xs r text go code is held there run = absurd (let q = is.0 in cc)
+  appended o at end ls st h s B span type_is.Unit (Text t) xs r text go code is held there run = absurd (let q = is.0 in cc)
+
+  further_follow : (span : Span) (es : List Core) → Further (further_texts (map code_of es)) (joined span ev es)
+  further_follow span [] text r s o at ls st h there ready =
+      own set S 0 (live o at ls (slot.Ref r ∷ st) h s) h 2 0 ls ls h (slot.Ref r ∷ []) (λ h' ys. Represents h' (Text text) ys) s (λ ls' h' ys. live o (at + 0) ls' (ys ++ st) h' s) (omega arith)
+      (let e : at ≡ at + 0 = omega arith in ap (λ n. live o n ls (slot.Ref r ∷ st) h s) e) (r, refl, there) (grows_none h) ready.held refl
+  further_follow span (e ∷ es) text r s o at ls st h there ready =
+      bind set S o (Typed (code_of e).ty) Represents (at + (code_of e).size) end (slot.Ref r ∷ st) st (live o at ls (slot.Ref r ∷ st) h s) h s.units 2 ((code_of e).nodes + more.nodes) 0 (code_of e).nodes ls (omega arith) (omega arith) (λ v. on_text span (text_of v) (λ u. joined span ev es (text ++ u))) (last (further_follow span es)) (ev e s)
+      (ih e s o at ls (slot.Ref r ∷ st) h (first_ready set S d ev sized ih e between more s o at ls h ready))
+    where
+      more : Several
+      more = further_texts (map code_of es)
+
+      between : List Operation
+      between = to_text (code_of e).ty ++ Call native_is.TextsConcat ∷ []
+
+      end : ℕ
+      end = at + ((code_of e).size + bytes between + more.size)
+
+      next : ℕ
+      next = at + (code_of e).size + bytes between
+
+      last : Further (further_texts (map code_of es)) (joined span ev es) → (v : Value) (s1 : State) → Reaches set S (live o at ls (slot.Ref r ∷ st) h s) h s.units 0 (code_of e).nodes ls (λ h' xs. Typed (code_of e).ty h' v xs) s1 (λ ls' h' xs. live o (at + (code_of e).size) ls' (xs ++ (slot.Ref r ∷ st)) h' s1) → Run set S o Represents (live o at ls (slot.Ref r ∷ st) h s) h s.units 2 ((code_of e).nodes + more.nodes) ls end st (on_text span (text_of v) (λ u. joined span ev es (text ++ u)) s1)
+      last again v s1 g =
+          run_on set S o Represents end st (live o at ls (slot.Ref r ∷ st) h s) h s.units 2 ((code_of e).nodes + more.nodes) 0 (code_of e).nodes 4 more.nodes ls s1 (λ h' xs. Typed (code_of e).ty h' v xs) (λ ls' h' xs. live o (at + (code_of e).size) ls' (xs ++ (slot.Ref r ∷ st)) h' s1) g (omega arith) (omega arith) (on_text span (text_of v) (λ u. joined span ev es (text ++ u)) s1)
+          (appended o (at + (code_of e).size) end g.ls' st g.h' s1 more.nodes span (code_of e).ty v g.xs r text (joined span ev es) (has_front set o (at + (code_of e).size) between more.code (between_at set S d ev sized ih e between more s o at ls h ready)) g.is g.held (g.grows.stays r (TextObject text) there)
+          (λ u h1 q held1 there1.
+          ends_at set S o Represents (live o next g.ls' (slot.Ref q ∷ st) h1 s1) h1 s1.units 2 more.nodes g.ls' (next + more.size) end st (joined span ev es (text ++ u) s1) (omega arith)
+          (again (text ++ u) q s1 o next g.ls' st h1 there1 (more_ready set S d ev sized ih e between more s s1 o at next ls g.ls' h h1 ready (omega (arith, g.units)) held1 refl))))
+
+  -- a value becomes a text
+  turned : (o : Spot) (at end : ℕ) (ls st : List Slot) (h : List Object) (s : State) (B : ℕ) (span : Span) (ty : TypeTree) (v : Value) (xs : List Slot) (go : List ℕ → State → Completion) → HasAt set o at (to_text ty) → Typed ty h v xs → Held h ls s.locals → ((u : List ℕ) (h1 : List Object) (q : ℕ) → Held h1 ls s.locals → slice_get h1 q ≡ Some (TextObject u) → Run set S o Represents (live o (at + bytes (to_text ty)) ls (slot.Ref q ∷ st) h1 s) h1 s.units 2 B ls end st (go u s)) → Run set S o Represents (live o at ls (xs ++ st) h s) h s.units 4 B ls end st (on_text span (text_of v) go s)
+  turned o at end ls st h s B span type_is.Int (Int z) xs go code is held run =
+      run_own set S 1 o Represents end st (live o at ls (xs ++ st) h s) (live o (at + 3) ls (slot.Ref (length h) ∷ st) h1 s) h h1 4 2 B ls ls s (omega arith)
+      (ap (λ ys. on_from set 1 (live o at ls (ys ++ st) h s)) is.1 ∙ call_of_int set o at ls st h s z code.0)
+      (grows_more h (TextObject (signed_decimal z))) held1 refl (go (signed_decimal z) s)
+      (run (signed_decimal z) h1 (length h) held1 (get_new h (TextObject (signed_decimal z))))
+    where
+      h1 : List Object
+      h1 = h ++ TextObject (signed_decimal z) ∷ []
+
+      held1 : Held h1 ls s.locals
+      held1 = held_on h h1 ls s.locals (grows_more h (TextObject (signed_decimal z))) held
+  turned o at end ls st h s B span type_is.String (Text t) xs go code is held run =
+      run_own set S 0 o Represents end st (live o at ls (xs ++ st) h s) (live o (at + 0) ls (slot.Ref is.1.0 ∷ st) h s) h h 4 2 B ls ls s (omega arith)
+      (let e : at ≡ at + 0 = omega arith in ap (λ ys. live o at ls (ys ++ st) h s) is.1.1 ∙ ap (λ n. live o n ls (slot.Ref is.1.0 ∷ st) h s) e)
+      (grows_none h) held refl (go t s)
+      (run t h is.1.0 held is.1.2)
+  turned o at end ls st h s B span type_is.Unit UnitValue xs go code is held run = tt
+  turned o at end ls st h s B span type_is.Int (Text t) xs go code is held run = absurd (let q = is.0 in cc)
+  turned o at end ls st h s B span type_is.Int UnitValue xs go code is held run = tt
+  turned o at end ls st h s B span type_is.String (Int z) xs go code is held run = absurd (let q = is.0 in cc)
+  turned o at end ls st h s B span type_is.String UnitValue xs go code is held run = tt
+  turned o at end ls st h s B span type_is.Unit (Int z) xs go code is held run = absurd (let q = is.0 in cc)
+  turned o at end ls st h s B span type_is.Unit (Text t) xs go code is held run = absurd (let q = is.0 in cc)
+
+  texts_follow : (span : Span) (e : Core) (es : List Core) → Does set S d ev sized ih (texts (map code_of (e ∷ es))) (joined span ev (e ∷ es) [])
+  texts_follow span e es s o at ls st h ready =
+      bind set S o (Typed (code_of e).ty) Represents (at + (code_of e).size) end st st (live o at ls st h s) h s.units 2 ((code_of e).nodes + more.nodes) 0 (code_of e).nodes ls (omega arith) (omega arith) (λ v. on_text span (text_of v) (λ u. joined span ev es u)) last (ev e s)
+      (ih e s o at ls st h (first_ready set S d ev sized ih e between more s o at ls h ready))
+    where
+      more : Several
+      more = further_texts (map code_of es)
+
+      between : List Operation
+      between = to_text (code_of e).ty
+
+      end : ℕ
+      end = at + ((code_of e).size + bytes between + more.size)
+
+      next : ℕ
+      next = at + (code_of e).size + bytes between
+
+      last : (v : Value) (s1 : State) → Reaches set S (live o at ls st h s) h s.units 0 (code_of e).nodes ls (λ h' xs. Typed (code_of e).ty h' v xs) s1 (λ ls' h' xs. live o (at + (code_of e).size) ls' (xs ++ st) h' s1) → Run set S o Represents (live o at ls st h s) h s.units 2 ((code_of e).nodes + more.nodes) ls end st (on_text span (text_of v) (λ u. joined span ev es u) s1)
+      last v s1 g =
+          run_on set S o Represents end st (live o at ls st h s) h s.units 2 ((code_of e).nodes + more.nodes) 0 (code_of e).nodes 4 more.nodes ls s1 (λ h' xs. Typed (code_of e).ty h' v xs) (λ ls' h' xs. live o (at + (code_of e).size) ls' (xs ++ st) h' s1) g (omega arith) (omega arith) (on_text span (text_of v) (λ u. joined span ev es u) s1)
+          (turned o (at + (code_of e).size) end g.ls' st g.h' s1 more.nodes span (code_of e).ty v g.xs (joined span ev es) (has_front set o (at + (code_of e).size) between more.code (between_at set S d ev sized ih e between more s o at ls h ready)) g.is g.held
+          (λ u h1 q held1 there1.
+          ends_at set S o Represents (live o next g.ls' (slot.Ref q ∷ st) h1 s1) h1 s1.units 2 more.nodes g.ls' (next + more.size) end st (joined span ev es u s1) (omega arith)
+          (further_follow span es u q s1 o next g.ls' st h1 there1 (more_ready set S d ev sized ih e between more s s1 o at next ls g.ls' h h1 ready (omega (arith, g.units)) held1 refl))))
+
+  pub concat_follows : (ty : TypeTree) (span : Span) (es : List Core) → Follows set S (suc d) (whole (texts (map code_of es)) [] ty) (λ s. enter s.units s (λ s1. then_do (joined span ev es [] s1) (checked span ty)))
+  concat_follows ty span es = entered set S d (texts (map code_of es)).nodes (whole (texts (map code_of es)) [] ty) _ (omega arith) (with_check set S d (texts (map code_of es)).nodes (whole (texts (map code_of es)) [] ty) span (joined span ev es []) (inside es))
+    where
+      inside : (es : List Core) → Inside set S d (texts (map code_of es)).nodes (whole (texts (map code_of es)) [] ty) (joined span ev es [])
+      inside [] s o at ls st h ready =
+          own set S 1 (live o at ls st h s) h factor 0 ls ls (h ++ TextObject [] ∷ []) (slot.Ref (length h) ∷ []) (λ h' ys. Represents h' (Text []) ys) s (λ ls' h' ys. live o (at + 3) ls' (ys ++ st) h' s) (omega arith)
+          (push_text set o at ls st h s [] ready.code.0) (length h, refl, get_new h (TextObject [])) (grows_more h (TextObject [])) (held_on h (h ++ TextObject [] ∷ []) ls s.locals (grows_more h (TextObject [])) ready.held) refl
+      inside (e ∷ es) s o at ls st h ready = wider set S o (at + x.size) (at + (x.size + 0)) (live o at ls st h s) h s.units 2 factor x.nodes ls st (joined span ev (e ∷ es) [] s) (omega arith) (omega arith) (texts_follow span e es s o at ls st h
+          (record { deep = ready.deep; small = omega (arith, ready.small); code = has_front set o at x.code [] ready.code; held = ready.held; quiet = ready.quiet }))
+        where
+          x : Several
+          x = texts (map code_of (e ∷ es))
+
+  -- what comes after the values of operands, which stand on the stack
+  abbrev After : Spot → ℕ → ℕ → List Slot → List Slot → List Object → (List Value → State → Completion) → Type 0
+  After o at end ls st h go = (vs : List Value) (s : State) (ls1 st1 : List Slot) (h1 : List Object) → Grows h h1 → Stacked h1 vs st st1 → Held h1 ls1 s.locals → Run set S o Represents (live o at ls1 st1 h1 s) h1 s.units factor 0 ls1 end st (go vs s)
+
+  values_follow : (es : List Core) (go : List Value → State → Completion) (s : State) (o : Spot) (at end : ℕ) (ls st st0 : List Slot) (h : List Object) → Readies set S d ev sized ih (values (map code_of es)) s o at ls h → ((vs : List Value) (s1 : State) (ls1 st1 : List Slot) (h1 : List Object) → Grows h h1 → Stacked h1 vs st st1 → Held h1 ls1 s1.locals → Run set S o Represents (live o (at + (values (map code_of es)).size) ls1 st1 h1 s1) h1 s1.units factor 0 ls1 end st0 (go vs s1)) → Run set S o Represents (live o at ls st h s) h s.units factor (values (map code_of es)).nodes ls end st0 (operands ev es go s)
+  values_follow [] go s o at end ls st st0 h ready then' =
+      subst (λ n. Run set S o Represents (live o n ls st h s) h s.units factor 0 ls end st0 (go [] s)) (let e : at + 0 ≡ at = omega arith in e) (then' [] s ls st h (grows_none h) refl ready.held)
+  values_follow (e ∷ es) go s o at end ls st st0 h ready then' =
+      bind set S o (Typed (code_of e).ty) Represents (at + (code_of e).size) end st st0 (live o at ls st h s) h s.units factor ((code_of e).nodes + more.nodes) 0 (code_of e).nodes ls (omega arith) (omega arith) (λ v. operands ev es (λ vs. go (v ∷ vs))) (last (λ go1 s1 ls1 st1 h1. values_follow es go1 s1 o next end ls1 st1 st0 h1)) (ev e s)
+      (ih e s o at ls st h (first_ready set S d ev sized ih e [] more s o at ls h ready))
+    where
+      more : Several
+      more = values (map code_of es)
+
+      next : ℕ
+      next = at + (code_of e).size + 0
+
+      last : ((go1 : List Value → State → Completion) (s1 : State) (ls1 st1 : List Slot) (h1 : List Object) → Readies set S d ev sized ih (values (map code_of es)) s1 o next ls1 h1 → ((vs : List Value) (s2 : State) (ls2 st2 : List Slot) (h2 : List Object) → Grows h1 h2 → Stacked h2 vs st1 st2 → Held h2 ls2 s2.locals → Run set S o Represents (live o (next + (values (map code_of es)).size) ls2 st2 h2 s2) h2 s2.units factor 0 ls2 end st0 (go1 vs s2)) → Run set S o Represents (live o next ls1 st1 h1 s1) h1 s1.units factor (values (map code_of es)).nodes ls1 end st0 (operands ev es go1 s1)) → (v : Value) (s1 : State) → Reaches set S (live o at ls st h s) h s.units 0 (code_of e).nodes ls (λ h' xs. Typed (code_of e).ty h' v xs) s1 (λ ls' h' xs. live o (at + (code_of e).size) ls' (xs ++ st) h' s1) → Run set S o Represents (live o at ls st h s) h s.units factor ((code_of e).nodes + more.nodes) ls end st0 (operands ev es (λ vs. go (v ∷ vs)) s1)
+      last again v s1 g =
+          run_on set S o Represents end st0 (live o at ls st h s) h s.units factor ((code_of e).nodes + more.nodes) 0 (code_of e).nodes factor more.nodes ls s1 (λ h' xs. Typed (code_of e).ty h' v xs) (λ ls' h' xs. live o (at + (code_of e).size) ls' (xs ++ st) h' s1) g (omega arith) (omega arith) (operands ev es (λ vs. go (v ∷ vs)) s1)
+          (subst (λ n. Run set S o Represents (live o n g.ls' (g.xs ++ st) g.h' s1) g.h' s1.units factor more.nodes g.ls' end st0 (operands ev es (λ vs. go (v ∷ vs)) s1)) (let i : next ≡ at + (code_of e).size = omega arith in i)
+          (again (λ vs. go (v ∷ vs)) s1 g.ls' (g.xs ++ st) g.h' (more_ready set S d ev sized ih e [] more s s1 o at next ls g.ls' h g.h' ready (omega (arith, g.units)) g.held refl)
+          (λ vs s2 ls2 st2 h2 grown stacked held2.
+          subst (λ n. Run set S o Represents (live o n ls2 st2 h2 s2) h2 s2.units factor 0 ls2 end st0 (go (v ∷ vs) s2)) (let i : at + ((code_of e).size + 0 + more.size) ≡ next + more.size = omega arith in i)
+          (then' (v ∷ vs) s2 ls2 st2 h2 (grows_on h g.h' h2 g.grows grown) (g.xs, represents_on g.h' h2 v g.xs grown g.is.1, stacked) held2))))
+
+  write_tail : (span : Span) (vs : List Value) (s : State) (o : Spot) (at : ℕ) (ls st st1 : List Slot) (h : List Object) → HasAt set o at (Call native_is.ConsoleWrite ∷ []) → Stacked h vs st st1 → Held h ls s.locals → Run set S o Represents (live o at ls st1 h s) h s.units factor 0 ls (at + 3) st (native span native_kind.ConsoleWrite vs s)
+  write_tail span (Text t ∷ []) s o at ls st st1 h code stacked held =
+      own set S 1 (live o at ls st1 h s) h factor 0 ls ls h [] (λ h' ys. Represents h' UnitValue ys) s' (λ ls' h' ys. live o (at + 3) ls' (ys ++ st) h' s') (omega arith)
+      (ap (λ ys. on_from set 1 (live o at ls ys h s)) (stacked.2 ∙ ap (λ zs. zs ++ st) stacked.1.1) ∙ call_write set o at ls st h s stacked.1.0 t code.0 stacked.1.2)
+      refl (grows_none h) held refl
+    where
+      s' : State
+      s' = record s { out = s.out ++ utf8_of t }
+  write_tail span [] s o at ls st st1 h code stacked held = tt
+  write_tail span (Text t ∷ v ∷ vs) s o at ls st st1 h code stacked held = tt
+  write_tail span (Int z ∷ vs) s o at ls st st1 h code stacked held = tt
+  write_tail span (UnitValue ∷ vs) s o at ls st st1 h code stacked held = tt
+
+  pub write_follows : (ty : TypeTree) (span : Span) (es : List Core) → AllSized (values (map code_of es)) → Follows set S (suc d) (whole (values (map code_of es)) (Call native_is.ConsoleWrite ∷ []) ty) (λ s. enter s.units s (λ s1. then_do (operands ev es (native span native_kind.ConsoleWrite) s1) (checked span ty)))
+  write_follows ty span es za = entered set S d x.nodes (whole x tail ty) _ (omega arith) (with_check set S d x.nodes (whole x tail ty) span (operands ev es (native span native_kind.ConsoleWrite)) inside)
+    where
+      x : Several
+      x = values (map code_of es)
+
+      tail : List Operation
+      tail = Call native_is.ConsoleWrite ∷ []
+
+      inside : Inside set S d x.nodes (whole x tail ty) (operands ev es (native span native_kind.ConsoleWrite))
+      inside s o at ls st h ready =
+          values_follow es (native span native_kind.ConsoleWrite) s o at (at + (x.size + 3)) ls st st h
+          (record { deep = ready.deep; small = omega (arith, ready.small); code = has_front set o at x.code tail ready.code; held = ready.held; quiet = ready.quiet })
+          (λ vs s1 ls1 st1 h1 grown stacked held1.
+          ends_at set S o Represents (live o (at + x.size) ls1 st1 h1 s1) h1 s1.units factor 0 ls1 (at + x.size + 3) (at + (x.size + 3)) st (native span native_kind.ConsoleWrite vs s1) (omega arith)
+          (write_tail span vs s1 o (at + x.size) ls1 st st1 h1 (subst (λ n. HasAt set o (at + n) tail) za (has_back set o at x.code tail ready.code)) stacked held1))

@@ -1,0 +1,186 @@
+-- The code of a node: what each instruction of it stands for, with its length in bytes. Which index of the pool an
+-- instruction names isn't said.
+use Rattle.std.specs.Prelude.{◌≡◌, ℕ, ◌+◌, Bool, ◌&&◌, List, [], ◌∷◌, ◌++◌, Option, Some, None, ℤ, pos, negsuc, int_le, nat_lt, if◌then◌else◌, ◌⊎◌}
+use Rattle.kc_core.specs.declared.tree.TypeTree.{TypeTree}
+use Rattle.kc_core.specs.declared.tree.TypeTree.TheVariants as type_is
+use Rattle.kc_core.specs.declared.tree.BinaryOp.{BinaryOp}
+use Rattle.kc_core.specs.declared.tree.BinaryOp.TheVariants.{Plus, Minus, Times, Div, Rem}
+use Rattle.kc_core.specs.declared.tree.UnaryOp.TheVariants as unary
+use Rattle.kc_core.specs.declared.tree.Native.TheVariants as native
+use Rattle.kc_core.specs.declared.tree.Core.{Core}
+use Rattle.kc_core.specs.declared.tree.Kind.TheFolds.{fold-Core}
+use Rattle.kc_core.specs.declared.tree.Kind.TheOpen.{Kind-F, Core-F}
+use Rattle.class_file.specs.declared.value.Kind.{Kind as SlotKind}
+use Rattle.class_file.specs.declared.value.Kind.TheVariants as kinds
+use Rattle.class_file.specs.declared.value.NativeId.{NativeId}
+use Rattle.class_file.specs.declared.value.NativeId.TheVariants as native_is
+use Rattle.class_file.specs.declared.row.Row.TheVariants as row
+use Rattle.class_file.specs.declared.row.Operator.{Operator}
+use Rattle.class_file.specs.declared.row.Operator.TheVariants as op
+use Rattle.class_file.specs.declared.instr.Instr.{Instr}
+use Rattle.class_file.specs.Rows.{length_of, row_of}
+use Rattle.class_file.specs.Pools.{Slots, entry_at, method_in, constant_in, Number, Literal}
+use Rattle.class_file.specs.Machine.{callee}
+
+-- what an instruction of the code does, by the things that its indexes stand for
+pub data Operation : Type 0 where
+  PushInt : (number : ℤ) → Operation
+  PushText : (units : List ℕ) → Operation
+  Load : (kind : SlotKind) (local : ℕ) → Operation
+  Store : (kind : SlotKind) (local : ℕ) → Operation
+  Compute : (operator : Operator) → Operation
+  Negate : Operation
+  Discard : Operation
+  Call : (method : NativeId) → Operation
+  Leave : Operation
+
+-- the shortest of iconst, bipush, sipush and ldc_w
+abbrev pub int_bytes : ℤ → ℕ
+int_bytes z =
+    if int_le (negsuc 0) z && int_le z (pos 5) then 1
+    else (if int_le (negsuc 127) z && int_le z (pos 127) then 2 else 3)
+
+abbrev pub local_bytes : ℕ → ℕ
+local_bytes x = if nat_lt x 256 then 2 else 4
+
+abbrev pub bytes_of : Operation → ℕ
+bytes_of (PushInt z) = int_bytes z
+bytes_of (PushText t) = 3
+bytes_of (Load k x) = local_bytes x
+bytes_of (Store k x) = local_bytes x
+bytes_of (Compute o) = 1
+bytes_of Negate = 1
+bytes_of Discard = 1
+bytes_of (Call m) = 3
+bytes_of Leave = 1
+
+abbrev pub bytes : List Operation → ℕ
+bytes [] = 0
+bytes (o ∷ os) = bytes_of o + bytes os
+
+-- over this pool an instruction at this place stands for the operation
+abbrev pub StandsFor : Slots → ℕ → Instr → Operation → Type 0
+StandsFor pool at i (PushInt z) = (row_of at i ≡ row.PushInt z) ⊎ ((k : ℕ) × (row_of at i ≡ row.PushConstant k) × (constant_in pool (entry_at pool k) ≡ Some (Number z)))
+StandsFor pool at i (PushText t) = (k : ℕ) × (row_of at i ≡ row.PushConstant k) × (constant_in pool (entry_at pool k) ≡ Some (Literal t))
+StandsFor pool at i (Load k x) = row_of at i ≡ row.Load k x
+StandsFor pool at i (Store k x) = row_of at i ≡ row.Store k x
+StandsFor pool at i (Compute o) = row_of at i ≡ row.IntBinary o
+StandsFor pool at i Negate = row_of at i ≡ row.IntNeg
+StandsFor pool at i Discard = row_of at i ≡ row.Pop
+StandsFor pool at i (Call m) = (k : ℕ) × (row_of at i ≡ row.InvokeStatic k) × (callee (method_in pool (entry_at pool k)) ≡ Some m)
+StandsFor pool at i Leave = row_of at i ≡ row.Return
+
+-- over this pool these instructions, from a place on, stand for the operations, one for one
+abbrev pub Spells : Slots → ℕ → List Instr → List Operation → Type 0
+Spells pool at [] [] = Unit {0}
+Spells pool at (i ∷ is) (o ∷ os) = StandsFor pool at i o × (length_of i ≡ bytes_of o) × Spells pool (at + bytes_of o) is os
+Spells pool at _ _ = ⊥
+
+-- what is known of a node's code: the static type of the value that it leaves on the stack, where `Unit` leaves nothing; its
+-- length in bytes; how many nodes it stands for; and the operations
+pub record Emitted : Type 0 where
+  pub ty : TypeTree
+  pub size : ℕ
+  pub nodes : ℕ
+  pub code : List Operation
+
+abbrev pub operator_of : BinaryOp → Operator
+operator_of Plus = op.Add
+operator_of Minus = op.Sub
+operator_of Times = op.Mul
+operator_of Div = op.Div
+operator_of Rem = op.Rem
+
+-- a local variable of this type onto the stack
+abbrev pub loads : TypeTree → ℕ → List Operation
+loads type_is.Int x = Load kinds.Int x ∷ []
+loads type_is.String x = Load kinds.Ref x ∷ []
+loads type_is.Unit x = []
+
+-- a value of this type from the stack into a local variable
+abbrev pub stores : TypeTree → ℕ → List Operation
+stores type_is.Int x = Store kinds.Int x ∷ []
+stores type_is.String x = Store kinds.Ref x ∷ []
+stores type_is.Unit x = []
+
+-- a value of this type on the stack becomes its text
+abbrev pub to_text : TypeTree → List Operation
+to_text type_is.Int = Call native_is.TextsOfInt ∷ []
+to_text type_is.String = []
+to_text type_is.Unit = []
+
+-- a value of this type is taken off the stack
+abbrev pub discards : TypeTree → List Operation
+discards type_is.Int = Discard ∷ []
+discards type_is.String = Discard ∷ []
+discards type_is.Unit = []
+
+-- code without children
+abbrev pub leaf : List Operation → TypeTree → Emitted
+leaf os ty = record { ty = ty; size = bytes os; nodes = 1; code = os }
+
+-- a child, and operations that take its value
+abbrev pub then_code : Emitted → List Operation → TypeTree → Emitted
+then_code a tail ty = record { ty = ty; size = a.size + bytes tail; nodes = 1 + a.nodes; code = a.code ++ tail }
+
+-- two children, and operations that take their values
+abbrev pub two_code : Emitted → Emitted → List Operation → TypeTree → Emitted
+two_code a b tail ty = record { ty = ty; size = a.size + b.size + bytes tail; nodes = 1 + a.nodes + b.nodes; code = a.code ++ (b.code ++ tail) }
+
+-- several children, and what stands behind the first ones and behind the last one
+pub record Several : Type 0 where
+  pub size : ℕ
+  pub nodes : ℕ
+  pub code : List Operation
+
+abbrev pub nothing : Several
+nothing = record { size = 0; nodes = 0; code = [] }
+
+abbrev pub followed : Emitted → List Operation → Several → Several
+followed e between more = record { size = e.size + bytes between + more.size; nodes = e.nodes + more.nodes; code = e.code ++ (between ++ more.code) }
+
+-- the parts of a text behind the first, each put behind what stands there
+abbrev pub further_texts : List Emitted → Several
+further_texts [] = nothing
+further_texts (e ∷ es) = followed e (to_text e.ty ++ Call native_is.TextsConcat ∷ []) (further_texts es)
+
+abbrev pub texts : List Emitted → Several
+texts [] = record { size = 3; nodes = 0; code = PushText [] ∷ [] }
+texts (e ∷ es) = followed e (to_text e.ty) (further_texts es)
+
+-- all values onto the stack
+abbrev pub values : List Emitted → Several
+values [] = nothing
+values (e ∷ es) = followed e [] (values es)
+
+-- one after the other, where the last one's value stays
+abbrev pub in_turn : List Emitted → Several
+in_turn [] = nothing
+in_turn (e ∷ []) = followed e [] nothing
+in_turn (e ∷ f ∷ es) = followed e (discards e.ty) (in_turn (f ∷ es))
+
+abbrev pub whole : Several → List Operation → TypeTree → Emitted
+whole s tail ty = record { ty = ty; size = s.size + bytes tail; nodes = 1 + s.nodes; code = s.code ++ tail }
+
+-- the code of a node, by its kind and its static type, from its children's
+abbrev pub kind_code : Kind-F (TypeTree → Emitted) Emitted → TypeTree → Emitted
+kind_code (Kind-F.IntLit n) ty = leaf (PushInt n ∷ []) ty
+kind_code (Kind-F.StrLit t) ty = leaf (PushText t ∷ []) ty
+kind_code (Kind-F.LocalRead x) ty = leaf (loads ty x) ty
+kind_code (Kind-F.Declare x None) ty = leaf [] ty
+kind_code (Kind-F.Declare x (Some e)) ty = then_code e (stores e.ty x) ty
+kind_code (Kind-F.NumBinary o a b) ty = two_code a b (Compute (operator_of o) ∷ []) ty
+kind_code (Kind-F.NumUnary unary.Minus a) ty = then_code a (Negate ∷ []) ty
+kind_code (Kind-F.Concat parts) ty = whole (texts parts) [] ty
+kind_code (Kind-F.CallNative native.ConsoleWrite args) ty = whole (values args) (Call native_is.ConsoleWrite ∷ []) ty
+kind_code (Kind-F.Block parts) ty = whole (in_turn parts) [] ty
+
+abbrev pub core_code : Core-F (TypeTree → Emitted) Emitted → Emitted
+core_code c = c.kind c.ty
+
+abbrev pub code_of : Core → Emitted
+code_of e = fold-Core (TypeTree → Emitted) Emitted kind_code core_code e
+
+-- a body's code, and the return behind it
+abbrev pub body_code : Core → List Operation
+body_code body = (code_of body).code ++ (discards body.ty ++ Leave ∷ [])

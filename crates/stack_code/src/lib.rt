@@ -1,0 +1,8 @@
+//! Code for the stack machine.
+#![tactic(auto)]
+
+pub mod constants;
+pub mod emit;
+pub mod instructions;
+pub mod method;
+pub mod operations;
