@@ -1,5 +1,12 @@
 pub mod Rows
 pub mod Pools
+pub mod Natives
 pub mod Machine
 pub mod Runs
 pub mod Indexing
+pub mod Descriptors
+pub mod Classes
+pub mod Lots
+pub mod Members
+pub mod Typing
+pub mod Verification

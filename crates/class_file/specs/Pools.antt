@@ -1,8 +1,8 @@
 -- What the indexes of a constant pool stand for (Java Virtual Machine Specification SE 8, 4.4).
-use Rattle.std.specs.Prelude.{◌≡◌, ℕ, List, ◌++◌, Bool, ◌&&◌, Option, Some, None, slice_get, nat_eq, ℤ}
+use Rattle.std.specs.Prelude.{◌≡◌, ℕ, List, ◌++◌, Bool, true, false, ◌&&◌, Option, Some, None, slice_get, nat_eq, ℤ}
 use lib.Pointwise.{pointwise}
 use Rattle.class_file.specs.declared.pool.Entry.{Entry}
-use Rattle.class_file.specs.declared.pool.Entry.TheVariants.{Utf8, Integer, Class, Str, MethodRef, NameAndType}
+use Rattle.class_file.specs.declared.pool.Entry.TheVariants.{Utf8, Integer, Long, Class, Str, FieldRef, MethodRef, InterfaceMethodRef, NameAndType}
 
 -- a pool: what stands at each index from 0 on
 abbrev pub Slots : Type 0
@@ -44,6 +44,31 @@ typed_in slots owner _ = None
 abbrev pub method_in : Slots → Option Entry → Option Member
 method_in slots (Some (MethodRef owner member)) = typed_in slots (name_in slots (entry_at slots owner)) (entry_at slots member)
 method_in slots _ = None
+
+-- a method as an instruction names it, and whether as an interface's
+pub record Named : Type 0 where
+  pub is_interface : Bool
+  pub member : Member
+
+abbrev pub named : Bool → Option Member → Option Named
+named of_interface None = None
+named of_interface (Some m) = Some (record { is_interface = of_interface; member = m })
+
+-- the method of a Methodref or InterfaceMethodref entry
+abbrev pub named_in : Slots → Option Entry → Option Named
+named_in slots (Some (MethodRef owner member)) = named false (method_in slots (Some (MethodRef owner member)))
+named_in slots (Some (InterfaceMethodRef owner member)) = named true (typed_in slots (name_in slots (entry_at slots owner)) (entry_at slots member))
+named_in slots _ = None
+
+-- the field of a Fieldref entry
+abbrev pub field_in : Slots → Option Entry → Option Member
+field_in slots (Some (FieldRef owner member)) = typed_in slots (name_in slots (entry_at slots owner)) (entry_at slots member)
+field_in slots _ = None
+
+-- what ldc2_w loads
+abbrev pub long_in : Option Entry → Option ℤ
+long_in (Some (Long n)) = Some n
+long_in _ = None
 
 -- what ldc loads
 pub data Constant : Type 0 where

@@ -1,10 +1,11 @@
 -- The table of instructions: the length of each, and what it does whatever its spelling.
 -- Java Virtual Machine Specification SE 8, 6.5 (instructions) and 4.7.3 (the code array).
-use Rattle.std.specs.Prelude.{ℕ, ◌-◌, List, [], ◌∷◌, Option, Some, None, ◌==◌, nat_lt, if◌then◌else◌, ℤ, pos, negsuc, ◌+ℤ◌}
+use Rattle.std.specs.Prelude.{ℕ, ◌-◌, List, [], ◌∷◌, Option, Some, None, ◌==◌, nat_lt, if◌then◌else◌, true, false, ℤ, pos, negsuc, ◌+ℤ◌}
 use Rattle.class_file.specs.declared.value.Kind.TheVariants as kinds
 use Rattle.class_file.specs.declared.row.Row.{Row}
 use Rattle.class_file.specs.declared.row.Row.TheVariants as row
 use Rattle.class_file.specs.declared.row.Operator.TheVariants as op
+use Rattle.class_file.specs.declared.row.Shift.TheVariants as shift
 use Rattle.class_file.specs.declared.row.Test.TheVariants as test
 use Rattle.class_file.specs.declared.instr.Instr.{Instr}
 use Rattle.class_file.specs.declared.instr.Instr.TheVariants as instr
@@ -65,7 +66,7 @@ length_of _ = 1
 abbrev pub target : ℕ → ℤ → ℕ
 target pc offset = elim (pos pc +ℤ offset) [ pos n ↦ n | negsuc n ↦ 65536 ]
 
--- what an instruction at a place does; the rows of the others aren't built yet
+-- what an instruction at a place does
 abbrev pub row_of : ℕ → Instr → Row
 row_of pc instr.AconstNull = row.PushNull
 row_of pc instr.IconstM1 = row.PushInt (negsuc 0)
@@ -152,8 +153,45 @@ row_of pc instr.Ireturn = row.ReturnValue kinds.Int
 row_of pc instr.Lreturn = row.ReturnValue kinds.Long
 row_of pc instr.Areturn = row.ReturnValue kinds.Ref
 row_of pc instr.Return = row.Return
+row_of pc instr.Nop = row.Nop
+row_of pc instr.DupX1 = row.DupX1
+row_of pc instr.Dup2 = row.Dup2
+row_of pc instr.Iand = row.IntBinary op.And
+row_of pc instr.Land = row.LongBinary op.And
+row_of pc instr.Ior = row.IntBinary op.Or
+row_of pc instr.Lor = row.LongBinary op.Or
+row_of pc instr.Ixor = row.IntBinary op.Xor
+row_of pc instr.Lxor = row.LongBinary op.Xor
+row_of pc instr.Ishl = row.IntShift shift.Left
+row_of pc instr.Lshl = row.LongShift shift.Left
+row_of pc instr.Ishr = row.IntShift shift.Right
+row_of pc instr.Lshr = row.LongShift shift.Right
+row_of pc instr.Iushr = row.IntShift shift.UnsignedRight
+row_of pc instr.Lushr = row.LongShift shift.UnsignedRight
+row_of pc (instr.Iinc i n) = row.Increment i n
+row_of pc (instr.WideIinc i n) = row.Increment i n
+row_of pc instr.I2c = row.IntToChar
+row_of pc (instr.IfAcmpeq o) = row.IfSame true (target pc o)
+row_of pc (instr.IfAcmpne o) = row.IfSame false (target pc o)
+row_of pc (instr.Ifnull o) = row.IfNull true (target pc o)
+row_of pc (instr.Ifnonnull o) = row.IfNull false (target pc o)
+row_of pc (instr.Ldc2W i) = row.PushLongConstant i
+row_of pc (instr.Getstatic i) = row.GetStatic i
+row_of pc (instr.Putstatic i) = row.PutStatic i
+row_of pc (instr.Getfield i) = row.GetField i
+row_of pc (instr.Putfield i) = row.PutField i
+row_of pc (instr.Invokevirtual i) = row.InvokeVirtual i
+row_of pc (instr.Invokespecial i) = row.InvokeSpecial i
 row_of pc (instr.Invokestatic i) = row.InvokeStatic i
-row_of pc _ = row.NotBuilt
+row_of pc (instr.Invokeinterface i n) = row.InvokeInterface i
+row_of pc (instr.New i) = row.New i
+row_of pc (instr.Anewarray i) = row.NewArray i
+row_of pc (instr.Checkcast i) = row.CheckCast i
+row_of pc (instr.Instanceof i) = row.InstanceOf i
+row_of pc instr.Arraylength = row.ArrayLength
+row_of pc instr.Aaload = row.ArrayLoad
+row_of pc instr.Aastore = row.ArrayStore
+row_of pc instr.Athrow = row.Throw
 
 -- the instruction that starts at a place, counted in bytes
 unfoldable pub instr_at : List Instr → ℕ → Option Instr

@@ -7,3 +7,4 @@ pub mod pool;
 pub mod row;
 pub mod table;
 pub mod value;
+pub mod verify_code;

@@ -4,7 +4,7 @@ ghost use Rattle.std.specs.Prelude.{◌≡◌, ◌<◌, ◌≤◌, ◌^◌};
 ghost use Rattle.class_file.specs.Rows.{length_of, row_of, target};
 
 use crate::instr::Instr;
-use crate::row::{Operator, Row, Test};
+use crate::row::{Operator, Row, Shift, Test};
 use crate::value::Kind;
 
 // The place that is so far from another.
@@ -240,44 +240,44 @@ pub fn row_of(pc: usize, instr: &Instr) -> Row
         Instr::Lreturn => Row::ReturnValue(Kind::Long),
         Instr::Areturn => Row::ReturnValue(Kind::Ref),
         Instr::Return => Row::Return,
+        Instr::Nop => Row::Nop,
+        Instr::DupX1 => Row::DupX1,
+        Instr::Dup2 => Row::Dup2,
+        Instr::Iand => Row::IntBinary(Operator::And),
+        Instr::Land => Row::LongBinary(Operator::And),
+        Instr::Ior => Row::IntBinary(Operator::Or),
+        Instr::Lor => Row::LongBinary(Operator::Or),
+        Instr::Ixor => Row::IntBinary(Operator::Xor),
+        Instr::Lxor => Row::LongBinary(Operator::Xor),
+        Instr::Ishl => Row::IntShift(Shift::Left),
+        Instr::Lshl => Row::LongShift(Shift::Left),
+        Instr::Ishr => Row::IntShift(Shift::Right),
+        Instr::Lshr => Row::LongShift(Shift::Right),
+        Instr::Iushr => Row::IntShift(Shift::UnsignedRight),
+        Instr::Lushr => Row::LongShift(Shift::UnsignedRight),
+        Instr::Iinc(i, n) => Row::Increment(*i as usize, i32::from(*n)),
+        Instr::WideIinc(i, n) => Row::Increment(*i as usize, i32::from(*n)),
+        Instr::I2c => Row::IntToChar,
+        Instr::IfAcmpeq(o) => Row::IfSame(true, target(pc, *o)),
+        Instr::IfAcmpne(o) => Row::IfSame(false, target(pc, *o)),
+        Instr::Ifnull(o) => Row::IfNull(true, target(pc, *o)),
+        Instr::Ifnonnull(o) => Row::IfNull(false, target(pc, *o)),
+        Instr::Ldc2W(i) => Row::PushLongConstant(*i as usize),
+        Instr::Getstatic(i) => Row::GetStatic(*i as usize),
+        Instr::Putstatic(i) => Row::PutStatic(*i as usize),
+        Instr::Getfield(i) => Row::GetField(*i as usize),
+        Instr::Putfield(i) => Row::PutField(*i as usize),
+        Instr::Invokevirtual(i) => Row::InvokeVirtual(*i as usize),
+        Instr::Invokespecial(i) => Row::InvokeSpecial(*i as usize),
         Instr::Invokestatic(i) => Row::InvokeStatic(*i as usize),
-        Instr::Nop
-        | Instr::Ldc2W(_)
-        | Instr::Aaload
-        | Instr::Aastore
-        | Instr::DupX1
-        | Instr::Dup2
-        | Instr::Ishl
-        | Instr::Lshl
-        | Instr::Ishr
-        | Instr::Lshr
-        | Instr::Iushr
-        | Instr::Lushr
-        | Instr::Iand
-        | Instr::Land
-        | Instr::Ior
-        | Instr::Lor
-        | Instr::Ixor
-        | Instr::Lxor
-        | Instr::Iinc(_, _)
-        | Instr::WideIinc(_, _)
-        | Instr::I2c
-        | Instr::IfAcmpeq(_)
-        | Instr::IfAcmpne(_)
-        | Instr::Ifnull(_)
-        | Instr::Ifnonnull(_)
-        | Instr::Getstatic(_)
-        | Instr::Putstatic(_)
-        | Instr::Getfield(_)
-        | Instr::Putfield(_)
-        | Instr::Invokevirtual(_)
-        | Instr::Invokespecial(_)
-        | Instr::Invokeinterface(_, _)
-        | Instr::New(_)
-        | Instr::Anewarray(_)
-        | Instr::Checkcast(_)
-        | Instr::Instanceof(_)
-        | Instr::Arraylength
-        | Instr::Athrow => Row::NotBuilt,
+        Instr::Invokeinterface(i, _) => Row::InvokeInterface(*i as usize),
+        Instr::New(i) => Row::New(*i as usize),
+        Instr::Anewarray(i) => Row::NewArray(*i as usize),
+        Instr::Checkcast(i) => Row::CheckCast(*i as usize),
+        Instr::Instanceof(i) => Row::InstanceOf(*i as usize),
+        Instr::Arraylength => Row::ArrayLength,
+        Instr::Aaload => Row::ArrayLoad,
+        Instr::Aastore => Row::ArrayStore,
+        Instr::Athrow => Row::Throw,
     }
 }

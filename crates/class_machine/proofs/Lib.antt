@@ -4,3 +4,4 @@ pub mod Stepping
 pub mod Running
 pub mod Beginning
 pub mod Ended
+pub mod Tops

@@ -1,6 +1,6 @@
 -- The entries of a code by byte offset, and what the links of a set say of it.
 use Rattle.std.proofs.Common.{◌≡◌, ℕ, suc, ◌+◌, ◌-◌, ◌<◌, ◌≤◌, Bool, true, false, cond, eqb, ltb, List, [], ◌∷◌, ◌++◌, length, get_or, take, drop, Option, Some, None, refl, sym, ap, ◌∙◌, append_assoc, length-append, arith, ◌⊎◌, inl, inr, nat_eq, add-one, lit<}
-use Rattle.std.specs.Prelude.{slice_get, map}
+use Rattle.std.specs.Prelude.{slice_get, map, ℤ}
 use Rattle.std.specs.Option.{option_map}
 use Rattle.std.proofs.Math.ListN.{replicate, get_or-append}
 use Rattle.std.proofs.Math.Seq.{drop-cons}
@@ -18,7 +18,12 @@ use Rattle.class_file.specs.declared.pool.Entry.{Entry}
 use Rattle.class_file.specs.declared.value.NativeId.{NativeId}
 use Rattle.class_file.specs.Rows.{length_of, instr_at}
 use Rattle.class_file.specs.Pools.{Slots, Constant, entry_at, flat}
-use Rattle.class_file.specs.Machine.{pool_of, class_pool, method_of, instr_in, fetch, resolve, constant}
+use Rattle.class_file.specs.Machine.{pool_of, class_pool, methods_of, instr_in, fetch, constant, long_constant}
+use Rattle.class_file.specs.declared.value.NativeId.TheVariants as native_is
+use Rattle.class_file.specs.Pools.{Member, named_in as entry_named}
+use Rattle.class_file.specs.Pools as pools
+use Rattle.class_file.specs.Lots.{NamesNative, native_member}
+use Rattle.class_machine.specs.Links.{native_named, native_in, wide_of, wide_at}
 use Rattle.class_machine.specs.declared.links.Op.{Op}
 use Rattle.class_machine.specs.declared.links.Link.{Link}
 use Rattle.class_machine.specs.declared.links.LinkedMethod.{LinkedMethod}
@@ -147,7 +152,7 @@ in_class : (set : Set) (class method at : ℕ) (i : Instr) (c : ClassFile) (o : 
 in_class set class method at i c None k h e = absurd cc
 in_class set class method at i c (Some m) k h e = record { c = c; m = m; class_is = k; method_is = h; instr_is = e }
 
-fetched_by : (set : Set) (class method at : ℕ) (i : Instr) (o : Option ClassFile) → slice_get set.classes class ≡ o → instr_in (method_of o method) at ≡ Some i → Fetched set class method at i
+fetched_by : (set : Set) (class method at : ℕ) (i : Instr) (o : Option ClassFile) → slice_get set.classes class ≡ o → instr_in (slice_get (methods_of o) method) at ≡ Some i → Fetched set class method at i
 fetched_by set class method at i None k e = absurd cc
 fetched_by set class method at i (Some c) k e = in_class set class method at i c (slice_get c.methods method) k refl e
 
@@ -204,11 +209,32 @@ named_by set links class i (Some c) h e = named_in set links class i c (slice_ge
 named : (set : Set) (links : Links) (class i : ℕ) → map parts links.classes.items ≡ map parts_of set.classes → Named set links class i
 named set links class i h = named_by set links class i (slice_get set.classes class) h refl
 
-natives_are : (set : Set) (links : Links) (class i : ℕ) (id : NativeId) → Named set links class i → resolve set class i ≡ Some id → native_at links class i ≡ Some id
-unfolding resolve
-natives_are set links class i id (inl none) e = absurd (let h = rw none at e in cc)
-natives_are set links class i id (inr n) e =
-    ap (λ (o : Option Link). elim o [ Some l ↦ native_of l | None ↦ None ]) n.at ∙ ap (λ (m : Meaning). m.native) n.is ∙ e
+some_member : (a b : Member) → (let o : Option Member = Some a in o) ≡ Some b → a ≡ b
+some_member a b e = cc
+
+-- each native is found by its name
+native_known : (id : NativeId) (m : Member) → native_member id ≡ Some m → native_named m ≡ Some id
+native_known native_is.TextsOfInt m e = ap native_named (sym (some_member _ m e))
+native_known native_is.TextsOfLong m e = ap native_named (sym (some_member _ m e))
+native_known native_is.TextsOfChar m e = ap native_named (sym (some_member _ m e))
+native_known native_is.TextsOfBoolean m e = ap native_named (sym (some_member _ m e))
+native_known native_is.TextsConcat m e = ap native_named (sym (some_member _ m e))
+native_known native_is.ConsoleWrite m e = ap native_named (sym (some_member _ m e))
+native_known _ m e = absurd cc
+
+native_found : (o : Option pools.Named) (id : NativeId) → NamesNative o id → native_in o ≡ Some id
+native_found o id n = ap native_in n.named_is ∙ native_known id n.member n.is
+
+natives_are : (set : Set) (links : Links) (class i : ℕ) (id : NativeId) → Named set links class i → NamesNative (entry_named (class_pool set class) (entry_at (class_pool set class) i)) id → native_at links class i ≡ Some id
+natives_are set links class i id (inl none) n = let h = rw none at n.named_is in absurd cc
+natives_are set links class i id (inr k) n =
+    ap (λ (o : Option Link). elim o [ Some l ↦ native_of l | None ↦ None ]) k.at ∙ ap (λ (m : Meaning). m.native) k.is ∙ native_found _ id n
+
+wides_are : (set : Set) (links : Links) (class i : ℕ) (n : ℤ) → Named set links class i → long_constant set class i ≡ Some n → wide_at links class i ≡ Some n
+unfolding long_constant
+wides_are set links class i n (inl none) e = absurd (let h = rw none at e in cc)
+wides_are set links class i n (inr k) e =
+    ap (λ (o : Option Link). elim o [ Some l ↦ wide_of l | None ↦ None ]) k.at ∙ ap (λ (m : Meaning). m.wide) k.is ∙ e
 
 constants_are : (set : Set) (links : Links) (class i : ℕ) (k : Constant) → Named set links class i → constant set class i ≡ Some k → constant_at links class i ≡ Some k
 unfolding constant
@@ -219,6 +245,7 @@ constants_are set links class i k (inr n) e =
 pub is_linked : (set : Set) (links : Links) → map parts links.classes.items ≡ map parts_of set.classes → IsLinked set links
 is_linked set links h = record {
   ops = ops_are set links h;
-  natives = λ class i id e. natives_are set links class i id (named set links class i h) e;
+  natives = λ class i id n. natives_are set links class i id (named set links class i h) n;
+  wides = λ class i n e. wides_are set links class i n (named set links class i h) e;
   constants = λ class i k e. constants_are set links class i k (named set links class i h) e;
 }

@@ -1,5 +1,6 @@
 pub mod Faults
 pub mod Stacks
+pub mod Heaps
 pub mod Links
 pub mod Core
 pub mod Runs

@@ -15,13 +15,13 @@ pub record Seen : Type 0 where
 
 -- What the definition's run comes to, from each input and after each earlier output, is this end, and the sink took what the
 -- run wrote. A run that a fault broke off wrote a front of it.
-abbrev pub RunsTo : (List ℕ → List ℕ → Next) → RunEnd → Core → Option (List ℕ) → Option (List ℕ) → Type 0
-RunsTo run Ended core before after = Wrote before after (λ said. (input earlier : List ℕ) → run input earlier ≡ Over machine.Ended (earlier ++ said))
-RunsTo run (Threw class message) core before after = Wrote before after (λ said. (input earlier : List ℕ) → run input earlier ≡ Over (machine.Threw class message) (earlier ++ said))
-RunsTo run StepLimit core before after = Wrote before after (λ said. (input earlier : List ℕ) → run input earlier ≡ Going (state_of core input (earlier ++ said)))
-RunsTo run ReadFault core before after = Cut before after run
-RunsTo run WriteFault core before after = Cut before after run
-RunsTo run Memory core before after = Cut before after run
+abbrev pub RunsTo : Set → (List ℕ → List ℕ → Next) → RunEnd → Core → Option (List ℕ) → Option (List ℕ) → Type 0
+RunsTo set run Ended core before after = Wrote before after (λ said. (input earlier : List ℕ) → run input earlier ≡ Over machine.Ended (earlier ++ said))
+RunsTo set run (Threw class message) core before after = Wrote before after (λ said. (input earlier : List ℕ) → run input earlier ≡ Over (machine.Threw class message) (earlier ++ said))
+RunsTo set run StepLimit core before after = Wrote before after (λ said. (input earlier : List ℕ) → run input earlier ≡ Going (state_of set core input (earlier ++ said)))
+RunsTo set run ReadFault core before after = Cut before after run
+RunsTo set run WriteFault core before after = Cut before after run
+RunsTo set run Memory core before after = Cut before after run
 
 abbrev pub is_step_limit : RunEnd → Bool
 is_step_limit StepLimit = true

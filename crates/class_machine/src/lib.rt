@@ -4,6 +4,7 @@
 mod begin;
 mod faults;
 mod frame;
+mod heap;
 mod laws;
 mod linking;
 mod links;

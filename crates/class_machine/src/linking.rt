@@ -1,11 +1,10 @@
 // Names resolved and code spread out by byte offset, once.
 
-ghost use Rattle.std.specs.Prelude.{◌≡◌, ◌<◌, ◌^◌, ◌++◌, nat_eq, length, map, OnOk, IfOk, Some, replicate, All};
+ghost use Rattle.std.specs.Prelude.{◌≡◌, ◌<◌, ◌^◌, ◌++◌, nat_eq, length, map, OnOk, IfOk, Some, false, replicate, All};
 ghost use Rattle.std.specs.Cmp.Lexicographic.{pointwise};
 ghost use Rattle.std.specs.Option.{option_copied};
-ghost use Rattle.class_file.specs.Pools.{entry_at, text_in, name_in, typed_in};
-ghost use Rattle.class_file.specs.Machine.{callee};
-ghost use Rattle.class_machine.specs.Links.{IsLinked, meaning_of, meaning_in, ops_of, parts, parts_of};
+ghost use Rattle.class_file.specs.Pools.{entry_at, text_in, name_in, typed_in, named, is_member};
+ghost use Rattle.class_machine.specs.Links.{IsLinked, native_named, native_in, meaning_of, meaning_in, ops_of, parts, parts_of};
 
 use crate::links::{Link, LinkedClass, LinkedMethod, Links, Op};
 use class_file::class::{ClassFile, Method, Set};
@@ -70,27 +69,84 @@ pub fn is_text(text: &Text, ascii: &[u8]) -> bool
     true
 }
 
+fn is_native(
+    owner: &Text,
+    name: &Text,
+    descriptor: &Text,
+    wanted_owner: &[u8],
+    wanted_name: &[u8],
+    wanted_descriptor: &[u8],
+) -> bool
+    ensures { result ≡ is_member
+        (record { owner = owner.now; name = name.now; descriptor = descriptor.now })
+        (record { owner = wanted_owner.now; name = wanted_name.now; descriptor = wanted_descriptor.now }) }
+{
+    is_text(owner, wanted_owner)
+        && (is_text(name, wanted_name) && is_text(descriptor, wanted_descriptor))
+}
+
 // The native of this class, name and descriptor.
 fn native_named(owner: &Text, name: &Text, descriptor: &Text) -> Option<NativeId>
-    ensures { result ≡ callee (Some (record { owner = owner.now; name = name.now; descriptor = descriptor.now })) }
+    ensures { result ≡ native_named (record { owner = owner.now; name = name.now; descriptor = descriptor.now }) }
 {
-    if is_text(owner, b"kprof/rt/Texts")
-        && (is_text(name, b"ofInt") && is_text(descriptor, b"(I)Ljava/lang/String;"))
-    {
+    if is_native(
+        owner,
+        name,
+        descriptor,
+        b"kprof/rt/Texts",
+        b"ofInt",
+        b"(I)Ljava/lang/String;",
+    ) {
         return Some(NativeId::TextsOfInt);
     }
-    if is_text(owner, b"kprof/rt/Texts")
-        && (is_text(name, b"concat")
-            && is_text(
-                descriptor,
-                b"(Ljava/lang/String;Ljava/lang/String;)Ljava/lang/String;",
-            ))
-    {
+    if is_native(
+        owner,
+        name,
+        descriptor,
+        b"kprof/rt/Texts",
+        b"ofLong",
+        b"(J)Ljava/lang/String;",
+    ) {
+        return Some(NativeId::TextsOfLong);
+    }
+    if is_native(
+        owner,
+        name,
+        descriptor,
+        b"kprof/rt/Texts",
+        b"ofChar",
+        b"(C)Ljava/lang/String;",
+    ) {
+        return Some(NativeId::TextsOfChar);
+    }
+    if is_native(
+        owner,
+        name,
+        descriptor,
+        b"kprof/rt/Texts",
+        b"ofBoolean",
+        b"(Z)Ljava/lang/String;",
+    ) {
+        return Some(NativeId::TextsOfBoolean);
+    }
+    if is_native(
+        owner,
+        name,
+        descriptor,
+        b"kprof/rt/Texts",
+        b"concat",
+        b"(Ljava/lang/String;Ljava/lang/String;)Ljava/lang/String;",
+    ) {
         return Some(NativeId::TextsConcat);
     }
-    if is_text(owner, b"kprof/rt/Console")
-        && (is_text(name, b"write") && is_text(descriptor, b"(Ljava/lang/String;)V"))
-    {
+    if is_native(
+        owner,
+        name,
+        descriptor,
+        b"kprof/rt/Console",
+        b"write",
+        b"(Ljava/lang/String;)V",
+    ) {
         return Some(NativeId::ConsoleWrite);
     }
     None
@@ -116,7 +172,7 @@ fn name_at(pool: &Pool, index: u16) -> Option<&Text>
 
 // The native that a Methodref entry names.
 fn native_at(pool: &Pool, owner: u16, member: u16) -> Option<NativeId>
-    ensures { result ≡ callee (typed_in pool.now (name_in pool.now (entry_at pool.now owner)) (entry_at pool.now member)) }
+    ensures { result ≡ native_in (named false (typed_in pool.now (name_in pool.now (entry_at pool.now owner)) (entry_at pool.now member))) }
 {
     let owner = name_at(pool, owner);
     match pool.get(member as usize) {
@@ -135,6 +191,7 @@ fn link_of(alloc: Global, pool: &Pool, index: usize) -> Result<Link, Memory>
 {
     match pool.get(index) {
         Some(Entry::Integer(number)) => Ok(Link::Number(*number)),
+        Some(Entry::Long(number)) => Ok(Link::Wide(*number)),
         Some(Entry::Str(text)) => match text_at(pool, *text) {
             Some(text) => Ok(Link::Literal(text.copy(alloc)?)),
             None => Ok(Link::Missing),
@@ -144,7 +201,6 @@ fn link_of(alloc: Global, pool: &Pool, index: usize) -> Result<Link, Memory>
             None => Ok(Link::Missing),
         },
         Some(Entry::Utf8(_))
-        | Some(Entry::Long(_))
         | Some(Entry::Class(_))
         | Some(Entry::FieldRef(_, _))
         | Some(Entry::InterfaceMethodRef(_, _))

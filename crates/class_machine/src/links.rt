@@ -10,6 +10,7 @@ pub enum Link {
     Missing,
     Native(NativeId),
     Number(i32),
+    Wide(i64),
     Literal(Text),
 }
 

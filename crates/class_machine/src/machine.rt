@@ -1,12 +1,13 @@
 //! The machine as its callers see it.
 
 ghost use Rattle.std.specs.Prelude.{◌≡◌, ◌<◌, ◌≤◌, ◌^◌, ◌++◌, ℕ, List, true, length, All, IfOk, OnErr};
-ghost use Rattle.class_file.specs.Machine.{on_from, step, Going, class_name, message};
+ghost use Rattle.class_file.specs.Lots.{IsFirstLot};
+ghost use Rattle.class_file.specs.Machine.{on_from, step, Going, message};
 ghost use Rattle.class_machine.specs.declared.machine.RunEnd.TheVariants as run_end;
 ghost use Rattle.class_machine.specs.Core.{state_of, core_of, core_at, first_core, NeverStuck, IsSafe, CanStep};
 ghost use Rattle.class_machine.specs.Faults.{HasCause};
 ghost use Rattle.class_machine.specs.Links.{IsLinked};
-ghost use Rattle.class_machine.specs.Runs.{Wrote, Cut, Comes};
+ghost use Rattle.class_machine.specs.Runs.{Wrote, Cut, Comes, class_name};
 ghost use Rattle.class_machine.specs.Seen.{RunsTo, IsCausedBy, is_step_limit};
 
 use crate::begin::begin;
@@ -56,18 +57,20 @@ impl<'a> Model for Machine<'a> {
 
     ghost use Rattle.class_machine.specs.Core.{core_at, IsSafe};
     ghost use Rattle.class_machine.specs.Links.{IsLinked};
+    ghost use Rattle.class_file.specs.Lots.{IsFirstLot};
 
-    ghost view = { λ m. record { set = m.set.now; core = core_at m.run; live = m.live } };
+    ghost view = { λ m. record { set = m.set.now; core = core_at m.set.now m.run; live = m.live } };
 
-    ghost invariant = { λ m. IsLinked m.set.now m.links × (m.live ≡ true → IsSafe m.set.now (core_at m.run)) };
+    ghost invariant = { λ m. IsLinked m.set.now m.links × IsFirstLot m.set.now × (m.live ≡ true → IsSafe m.set.now (core_at m.set.now m.run)) };
 }
 
 impl<'a> Machine<'a> {
     /// The machine before its first step. It links the set's code and names once.
     pub fn start(alloc: Global, set: &'a Set) -> Result<Machine<'a>, Memory>
         requires codes { All (λ c. All (λ m. length m.code < 2 ^ 28) c.methods) set.now.classes }
-        requires never { NeverStuck set.now first_core }
-        ensures { IfOk result (λ m. (m.set ≡ set.now) × (m.core ≡ first_core) × (m.live ≡ true)) }
+        requires lot { IsFirstLot set.now }
+        requires never { NeverStuck set.now (first_core set.now) }
+        ensures { IfOk result (λ m. (m.set ≡ set.now) × (m.core ≡ first_core set.now) × (m.live ≡ true)) }
     {
         let links = link(alloc, set)?;
         Ok(Machine {
@@ -94,7 +97,7 @@ impl<'a> Machine<'a> {
         out: &mut O,
     ) -> RunEnd
         requires { self.old.live ≡ true }
-        ensures ran { RunsTo (λ input earlier. on_from self.old.set steps (Going (state_of self.old.core input earlier))) result self.new.core (O.taken out.old) (O.taken out.new) }
+        ensures ran { RunsTo self.old.set (λ input earlier. on_from self.old.set steps (Going (state_of self.old.set self.old.core input earlier))) result self.new.core (O.taken out.old) (O.taken out.new) }
         ensures live { self.new.live ≡ is_step_limit result }
         ensures set { self.new.set ≡ self.old.set }
         ensures cause { IsCausedBy result (I.faults _input.old) (I.faults _input.new) (O.faults out.old) (O.faults out.new) }
@@ -118,20 +121,65 @@ impl<'a> Machine<'a> {
     }
 }
 
+// The binary name of the class of an exception.
+fn class_name(exception: BuiltIn) -> &'static str
+    ensures { result.now ≡ class_name exception }
+{
+    match exception {
+        BuiltIn::Throwable => "java/lang/Throwable",
+        BuiltIn::Exception => "java/lang/Exception",
+        BuiltIn::Error => "java/lang/Error",
+        BuiltIn::RuntimeException => "java/lang/RuntimeException",
+        BuiltIn::IllegalArgumentException => "java/lang/IllegalArgumentException",
+        BuiltIn::NumberFormatException => "java/lang/NumberFormatException",
+        BuiltIn::IllegalStateException => "java/lang/IllegalStateException",
+        BuiltIn::UnsupportedOperationException => "java/lang/UnsupportedOperationException",
+        BuiltIn::ArithmeticException => "java/lang/ArithmeticException",
+        BuiltIn::NullPointerException => "java/lang/NullPointerException",
+        BuiltIn::ClassCastException => "java/lang/ClassCastException",
+        BuiltIn::IndexOutOfBoundsException => "java/lang/IndexOutOfBoundsException",
+        BuiltIn::ArrayIndexOutOfBoundsException => "java/lang/ArrayIndexOutOfBoundsException",
+        BuiltIn::ArrayStoreException => "java/lang/ArrayStoreException",
+        BuiltIn::NegativeArraySizeException => "java/lang/NegativeArraySizeException",
+        BuiltIn::IncompatibleClassChangeError => "java/lang/IncompatibleClassChangeError",
+        BuiltIn::AbstractMethodError => "java/lang/AbstractMethodError",
+        BuiltIn::NoSuchElementException => "java/util/NoSuchElementException",
+    }
+}
+
+fn message(alloc: Global, exception: BuiltIn) -> Result<Option<Text>, Memory>
+    ensures { IfOk result (λ text. text ≡ message exception) }
+{
+    match exception {
+        BuiltIn::ArithmeticException => Ok(Some(Text::from_str(alloc, "/ by zero")?)),
+        BuiltIn::Throwable
+        | BuiltIn::Exception
+        | BuiltIn::Error
+        | BuiltIn::RuntimeException
+        | BuiltIn::IllegalArgumentException
+        | BuiltIn::NumberFormatException
+        | BuiltIn::IllegalStateException
+        | BuiltIn::UnsupportedOperationException
+        | BuiltIn::NullPointerException
+        | BuiltIn::ClassCastException
+        | BuiltIn::IndexOutOfBoundsException
+        | BuiltIn::ArrayIndexOutOfBoundsException
+        | BuiltIn::ArrayStoreException
+        | BuiltIn::NegativeArraySizeException
+        | BuiltIn::IncompatibleClassChangeError
+        | BuiltIn::AbstractMethodError
+        | BuiltIn::NoSuchElementException => Ok(None),
+    }
+}
+
 // An exception that left main.
 fn threw(alloc: Global, exception: BuiltIn) -> Result<RunEnd, Memory>
     ensures { IfOk result (λ end. end ≡ run_end.Threw (class_name exception) (message exception)) }
 {
-    match exception {
-        BuiltIn::ArithmeticException => Ok(RunEnd::Threw {
-            class: Text::from_str(alloc, "java/lang/ArithmeticException")?,
-            message: Some(Text::from_str(alloc, "/ by zero")?),
-        }),
-        BuiltIn::NullPointerException => Ok(RunEnd::Threw {
-            class: Text::from_str(alloc, "java/lang/NullPointerException")?,
-            message: None,
-        }),
-    }
+    Ok(RunEnd::Threw {
+        class: Text::from_str(alloc, class_name(exception))?,
+        message: message(alloc, exception)?,
+    })
 }
 
 // At most so many steps, the first of which may be the call of main.
@@ -144,10 +192,11 @@ fn advance<O: Sink>(
     out: &mut O,
 ) -> Result<StepEnd, Fault>
     requires linked { IsLinked set.now links.now }
-    requires safe { IsSafe set.now (core_at run.old) }
+    requires lot { IsFirstLot set.now }
+    requires safe { IsSafe set.now (core_at set.now run.old) }
     ensures ok { IfOk result (λ end. Wrote (O.taken out.old) (O.taken out.new) (λ said. (input earlier : List ℕ) →
-        Comes (on_from set.now steps (Going (state_of (core_at run.old) input earlier))) end (core_at run.new) input (earlier ++ said))) }
-    ensures err { OnErr result (Cut (O.taken out.old) (O.taken out.new) (λ input earlier. on_from set.now steps (Going (state_of (core_at run.old) input earlier)))) }
+        Comes set.now (on_from set.now steps (Going (state_of set.now (core_at set.now run.old) input earlier))) end (core_at set.now run.new) input (earlier ++ said))) }
+    ensures err { OnErr result (Cut (O.taken out.old) (O.taken out.new) (λ input earlier. on_from set.now steps (Going (state_of set.now (core_at set.now run.old) input earlier)))) }
     ensures cause { HasCause (O.faults out.old) (O.faults out.new) result }
     ensures faults { O.faults out.old ≤ O.faults out.new }
 {

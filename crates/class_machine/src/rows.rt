@@ -1,11 +1,13 @@
 // What each row does in its frame.
 
-ghost use Rattle.std.specs.Prelude.{◌≡◌, ◌≢◌, reverse, IfOk};
-ghost use Rattle.class_file.specs.Machine.{int_answer, long_answer, holds, three_way, low_half, effect, Fails};
+ghost use Rattle.std.specs.Int.{w32, w64};
+ghost use Rattle.std.specs.Prelude.{◌≡◌, ◌≢◌, ◌<◌, reverse, IfOk};
+ghost use Rattle.class_file.specs.Machine.{int_answer, long_answer, holds, three_way, low_half, low_unit, shifted, branch, effect, Fails};
+ghost use Rattle.class_file.specs.declared.row.Row.TheVariants as row;
 ghost use Rattle.class_machine.specs.Stacks.{Did};
 
 use crate::frame::{Frame, pop, pop_int, pop_long, push};
-use class_file::row::{Operator, Row, Test};
+use class_file::row::{Operator, Row, Shift, Test};
 use class_file::value::{BuiltIn, Kind, Value};
 use std::alloc::AllocError;
 
@@ -15,9 +17,13 @@ pub enum Went {
     On,
     Threw(BuiltIn),
     Loads(usize),
+    LoadsWide(usize),
+    /// Two references are compared: whether they are to be the same, where a jump leads, and the two.
+    Compares(bool, usize, Value, Value),
     Calls(usize),
     Returned,
     ReturnedValue(Value),
+    NotBuilt,
 }
 
 fn int_answer(o: Operator, x: i32, y: i32) -> Option<i32>
@@ -37,6 +43,49 @@ fn int_answer(o: Operator, x: i32, y: i32) -> Option<i32>
         } else {
             Some(x.wrapping_rem(y))
         },
+        Operator::And => Some(x & y),
+        Operator::Or => Some(x | y),
+        Operator::Xor => Some(x ^ y),
+    }
+}
+
+fn int_shifted(s: Shift, x: i32, k: u32) -> i32
+    requires { k < 32 }
+    ensures { result ≡ shifted s w32 x k }
+{
+    match s {
+        Shift::Left => x << k,
+        Shift::Right => x >> k,
+        Shift::UnsignedRight => (x.cast_unsigned() >> k).cast_signed(),
+    }
+}
+
+fn long_shifted(s: Shift, x: i64, k: u32) -> i64
+    requires { k < 64 }
+    ensures { result ≡ shifted s w64 x k }
+{
+    match s {
+        Shift::Left => x << k,
+        Shift::Right => x >> k,
+        Shift::UnsignedRight => (x.cast_unsigned() >> k).cast_signed(),
+    }
+}
+
+fn low_unit(x: i32) -> i32
+    ensures { result ≡ low_unit x }
+{
+    i32::from((x.cast_unsigned() % 0x1_0000) as u16)
+}
+
+/// Where a jump goes on that is made where something is so, or, if not wanted, where it is not.
+#[inline(always)]
+pub fn branch(wanted: bool, so: bool, to: usize, next: usize) -> usize
+    ensures { result ≡ branch wanted so to next }
+{
+    if wanted {
+        if so { to } else { next }
+    } else {
+        if so { next } else { to }
     }
 }
 
@@ -82,6 +131,9 @@ fn long_answer(o: Operator, x: i64, y: i64) -> Option<i64>
         } else {
             Some(x.wrapping_rem(y))
         },
+        Operator::And => Some(x & y),
+        Operator::Or => Some(x | y),
+        Operator::Xor => Some(x ^ y),
     }
 }
 
@@ -91,13 +143,93 @@ fn low_half(x: i64) -> i32
     ((x.cast_unsigned() % 0x1_0000_0000) as u32).cast_signed()
 }
 
+// A local variable onto the stack.
+#[inline(always)]
+fn load(kind: Kind, i: usize, next: usize, f: &mut Frame) -> Result<Went, AllocError>
+    requires { effect (row.Load kind i) next f.old.locals.items (reverse f.old.stack.items) ≢ Fails }
+    ensures { IfOk result (λ w. Did (row.Load kind i) (effect (row.Load kind i) next f.old.locals.items (reverse f.old.stack.items)) w f.old f.new) }
+{
+    let _kind = kind;
+    let v = f.locals[i];
+    push(&mut f.stack, v)?;
+    f.at = next;
+    Ok(Went::On)
+}
+
+// The top of the stack into a local variable.
+#[inline(always)]
+fn store(kind: Kind, i: usize, next: usize, f: &mut Frame) -> Went
+    requires { effect (row.Store kind i) next f.old.locals.items (reverse f.old.stack.items) ≢ Fails }
+    ensures { Did (row.Store kind i) (effect (row.Store kind i) next f.old.locals.items (reverse f.old.stack.items)) result f.old f.new }
+{
+    let v = pop(&mut f.stack);
+    match kind {
+        Kind::Long => {
+            f.locals[i] = v;
+            f.locals[i + 1] = Value::Nothing;
+        }
+        Kind::Int => f.locals[i] = v,
+        Kind::Ref => f.locals[i] = v,
+    }
+    f.at = next;
+    Went::On
+}
+
+#[inline(always)]
+fn int_binary(o: Operator, next: usize, f: &mut Frame) -> Result<Went, AllocError>
+    requires { effect (row.IntBinary o) next f.old.locals.items (reverse f.old.stack.items) ≢ Fails }
+    ensures { IfOk result (λ w. Did (row.IntBinary o) (effect (row.IntBinary o) next f.old.locals.items (reverse f.old.stack.items)) w f.old f.new) }
+{
+    let y = pop_int(&mut f.stack);
+    let x = pop_int(&mut f.stack);
+    match int_answer(o, x, y) {
+        Some(n) => {
+            push(&mut f.stack, Value::Int(n))?;
+            f.at = next;
+            Ok(Went::On)
+        }
+        None => Ok(Went::Threw(BuiltIn::ArithmeticException)),
+    }
+}
+
+#[inline(always)]
+fn long_binary(o: Operator, next: usize, f: &mut Frame) -> Result<Went, AllocError>
+    requires { effect (row.LongBinary o) next f.old.locals.items (reverse f.old.stack.items) ≢ Fails }
+    ensures { IfOk result (λ w. Did (row.LongBinary o) (effect (row.LongBinary o) next f.old.locals.items (reverse f.old.stack.items)) w f.old f.new) }
+{
+    let y = pop_long(&mut f.stack);
+    let x = pop_long(&mut f.stack);
+    match long_answer(o, x, y) {
+        Some(n) => {
+            push(&mut f.stack, Value::Long(n))?;
+            f.at = next;
+            Ok(Went::On)
+        }
+        None => Ok(Went::Threw(BuiltIn::ArithmeticException)),
+    }
+}
+
+#[inline(always)]
+fn return_value(kind: Kind, next: usize, f: &mut Frame) -> Went
+    requires { effect (row.ReturnValue kind) next f.old.locals.items (reverse f.old.stack.items) ≢ Fails }
+    ensures { Did (row.ReturnValue kind) (effect (row.ReturnValue kind) next f.old.locals.items (reverse f.old.stack.items)) result f.old f.new }
+{
+    let _kind = kind;
+    let _next = next;
+    Went::ReturnedValue(pop(&mut f.stack))
+}
+
 /// What a row does that needs nothing but its frame.
 #[inline(always)]
 pub fn in_frame(row: Row, next: usize, f: &mut Frame) -> Result<Went, AllocError>
     requires { effect row next f.old.locals.items (reverse f.old.stack.items) ≢ Fails }
-    ensures { IfOk result (λ w. Did (effect row next f.old.locals.items (reverse f.old.stack.items)) w f.old f.new) }
+    ensures { IfOk result (λ w. Did row (effect row next f.old.locals.items (reverse f.old.stack.items)) w f.old f.new) }
 {
     match row {
+        Row::Nop => {
+            f.at = next;
+            Ok(Went::On)
+        }
         Row::PushInt(n) => {
             push(&mut f.stack, Value::Int(n))?;
             f.at = next;
@@ -114,22 +246,14 @@ pub fn in_frame(row: Row, next: usize, f: &mut Frame) -> Result<Went, AllocError
             Ok(Went::On)
         }
         Row::PushConstant(i) => Ok(Went::Loads(i)),
-        Row::Load(_, i) => {
-            let v = f.locals[i];
-            push(&mut f.stack, v)?;
-            f.at = next;
-            Ok(Went::On)
-        }
-        Row::Store(Kind::Long, i) => {
-            let v = pop(&mut f.stack);
-            f.locals[i] = v;
-            f.locals[i + 1] = Value::Nothing;
-            f.at = next;
-            Ok(Went::On)
-        }
-        Row::Store(_, i) => {
-            let v = pop(&mut f.stack);
-            f.locals[i] = v;
+        Row::PushLongConstant(i) => Ok(Went::LoadsWide(i)),
+        Row::Load(kind, i) => load(kind, i, next, f),
+        Row::Store(kind, i) => Ok(store(kind, i, next, f)),
+        Row::Increment(i, n) => {
+            let Value::Int(x) = f.locals[i] else {
+                unreachable!()
+            };
+            f.locals[i] = Value::Int(x.wrapping_add(n));
             f.at = next;
             Ok(Went::On)
         }
@@ -152,29 +276,51 @@ pub fn in_frame(row: Row, next: usize, f: &mut Frame) -> Result<Went, AllocError
             f.at = next;
             Ok(Went::On)
         }
-        Row::IntBinary(o) => {
+        Row::DupX1 => {
+            let v = pop(&mut f.stack);
+            let w = pop(&mut f.stack);
+            push(&mut f.stack, v)?;
+            push(&mut f.stack, w)?;
+            push(&mut f.stack, v)?;
+            f.at = next;
+            Ok(Went::On)
+        }
+        Row::Dup2 => {
+            let v = pop(&mut f.stack);
+            if let Value::Long(_) = v {
+                push(&mut f.stack, v)?;
+                push(&mut f.stack, v)?;
+            } else {
+                let w = pop(&mut f.stack);
+                push(&mut f.stack, w)?;
+                push(&mut f.stack, v)?;
+                push(&mut f.stack, w)?;
+                push(&mut f.stack, v)?;
+            }
+            f.at = next;
+            Ok(Went::On)
+        }
+        Row::IntBinary(o) => int_binary(o, next, f),
+        Row::LongBinary(o) => long_binary(o, next, f),
+        Row::IntShift(s) => {
             let y = pop_int(&mut f.stack);
             let x = pop_int(&mut f.stack);
-            match int_answer(o, x, y) {
-                Some(n) => {
-                    push(&mut f.stack, Value::Int(n))?;
-                    f.at = next;
-                    Ok(Went::On)
-                }
-                None => Ok(Went::Threw(BuiltIn::ArithmeticException)),
-            }
+            push(
+                &mut f.stack,
+                Value::Int(int_shifted(s, x, y.cast_unsigned() % 32)),
+            )?;
+            f.at = next;
+            Ok(Went::On)
         }
-        Row::LongBinary(o) => {
-            let y = pop_long(&mut f.stack);
+        Row::LongShift(s) => {
+            let y = pop_int(&mut f.stack);
             let x = pop_long(&mut f.stack);
-            match long_answer(o, x, y) {
-                Some(n) => {
-                    push(&mut f.stack, Value::Long(n))?;
-                    f.at = next;
-                    Ok(Went::On)
-                }
-                None => Ok(Went::Threw(BuiltIn::ArithmeticException)),
-            }
+            push(
+                &mut f.stack,
+                Value::Long(long_shifted(s, x, y.cast_unsigned() % 64)),
+            )?;
+            f.at = next;
+            Ok(Went::On)
         }
         Row::IntNeg => {
             let x = pop_int(&mut f.stack);
@@ -200,6 +346,12 @@ pub fn in_frame(row: Row, next: usize, f: &mut Frame) -> Result<Went, AllocError
             f.at = next;
             Ok(Went::On)
         }
+        Row::IntToChar => {
+            let x = pop_int(&mut f.stack);
+            push(&mut f.stack, Value::Int(low_unit(x)))?;
+            f.at = next;
+            Ok(Went::On)
+        }
         Row::LongCompare => {
             let y = pop_long(&mut f.stack);
             let x = pop_long(&mut f.stack);
@@ -218,13 +370,37 @@ pub fn in_frame(row: Row, next: usize, f: &mut Frame) -> Result<Went, AllocError
             f.at = if holds(t, x, y) { to } else { next };
             Ok(Went::On)
         }
+        Row::IfSame(wanted, to) => {
+            let second = pop(&mut f.stack);
+            let first = pop(&mut f.stack);
+            Ok(Went::Compares(wanted, to, first, second))
+        }
+        Row::IfNull(wanted, to) => {
+            let v = pop(&mut f.stack);
+            f.at = branch(wanted, matches!(v, Value::Null), to, next);
+            Ok(Went::On)
+        }
         Row::Goto(to) => {
             f.at = to;
             Ok(Went::On)
         }
         Row::InvokeStatic(i) => Ok(Went::Calls(i)),
         Row::Return => Ok(Went::Returned),
-        Row::ReturnValue(_) => Ok(Went::ReturnedValue(pop(&mut f.stack))),
-        Row::NotBuilt => unreachable!(),
+        Row::ReturnValue(kind) => Ok(return_value(kind, next, f)),
+        Row::GetStatic(_)
+        | Row::PutStatic(_)
+        | Row::GetField(_)
+        | Row::PutField(_)
+        | Row::InvokeVirtual(_)
+        | Row::InvokeSpecial(_)
+        | Row::InvokeInterface(_)
+        | Row::New(_)
+        | Row::NewArray(_)
+        | Row::CheckCast(_)
+        | Row::InstanceOf(_)
+        | Row::ArrayLength
+        | Row::ArrayLoad
+        | Row::ArrayStore
+        | Row::Throw => Ok(Went::NotBuilt),
     }
 }

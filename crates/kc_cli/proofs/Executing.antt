@@ -1,8 +1,8 @@
 -- From what is known of a file's program, of its class and of the machine to what `exec` says.
 use Rattle.std.proofs.Common.{◌≡◌, ℕ, List, [], ◌∷◌, ◌++◌, Option, Some, None, refl, sym, ap, ◌∙◌, subst}
-use Rattle.std.specs.Prelude.{slice_get, codes}
+use Rattle.std.specs.Prelude.{slice_get}
 use Rattle.std.specs.Option.{option_map}
-use Rattle.kc_io.specs.Told.{appended, appended-nil}
+use Rattle.kc_io.specs.Told.{appended-nil}
 use Rattle.kc_core.specs.declared.tree.Core.{Core}
 use Rattle.kc_core.specs.declared.tree.Program.{Program}
 use Rattle.kc_core.specs.Runs as runs
@@ -13,10 +13,10 @@ use Rattle.class_file.specs.Machine as machine
 use Rattle.class_file.specs.Machine.{written, Next, on_from, Ending}
 use Rattle.class_machine.specs.Core.{Core as MachineCore, state_of, first_core}
 use Rattle.class_machine.specs.Runs.{Wrote, Cut}
-use Rattle.stack_code.specs.Agrees.{IsCompiled, NeverBrokenAt, NeverStuckAt, machine_outcome}
+use Rattle.stack_code.specs.Agrees.{IsCompiled, NeverBrokenAt, machine_outcome}
 use Rattle.stack_code.proofs.Agree.{compiled_agrees}
 use Rattle.kc_cli.specs.declared.surface.Source.{Source}
-use Rattle.kc_cli.specs.Elaboration.{main_function, statements_of, program_of}
+use Rattle.kc_cli.specs.Elaboration.{main_function, statements_of}
 use Rattle.kc_cli.specs.Form.{Form}
 use Rattle.kc_cli.specs.Compiled.{HasMain}
 use Rattle.kc_cli.specs.Execution.{Builds, Finished, BrokenOff, most_steps}
@@ -55,17 +55,17 @@ builds bytes program set f formed c = record {
 pub nothing_ran : (set : Set) (told : Option (List ℕ)) → BrokenOff set told told
 nothing_ran set told = record { front = []; taken = sym (appended-nil told); begins = λ input. (written (machine.machine set input most_steps), refl) }
 
-module _ (set : Set) (from : Set) (core : MachineCore) (set_is : from ≡ set) (core_is : core ≡ first_core) (before after : Option (List ℕ)) where
+module _ (set : Set) (from : Set) (core : MachineCore) (set_is : from ≡ set) (core_is : core ≡ first_core set) (before after : Option (List ℕ)) where
   abbrev run : List ℕ → List ℕ → Next
-  run input earlier = on_from from 1000000000 (machine.Going (state_of core input earlier))
+  run input earlier = on_from from 1000000000 (machine.Going (state_of from core input earlier))
 
   same : (input : List ℕ) → run input [] ≡ machine.machine set input most_steps
-  same input = ap (λ (s : Set). on_from s 1000000000 (machine.Going (state_of core input []))) set_is ∙ ap (λ (k : MachineCore). on_from set 1000000000 (machine.Going (state_of k input []))) core_is
+  same input = ap (λ (s : Set). on_from s 1000000000 (machine.Going (state_of s core input []))) set_is ∙ ap (λ (k : MachineCore). on_from set 1000000000 (machine.Going (state_of set k input []))) core_is
 
   pub finished : (how : Ending) → Wrote before after (λ said. (input earlier : List ℕ) → run input earlier ≡ machine.Over how (earlier ++ said)) → Finished set before after (runs.Over how)
   finished how w = record { said = w.said; taken = w.taken; comes = λ input. ap machine_outcome (sym (same input) ∙ w.so input []) }
 
-  pub limited : (now : MachineCore) → Wrote before after (λ said. (input earlier : List ℕ) → run input earlier ≡ machine.Going (state_of now input (earlier ++ said))) → Finished set before after runs.Going
+  pub limited : (now : MachineCore) → Wrote before after (λ said. (input earlier : List ℕ) → run input earlier ≡ machine.Going (state_of from now input (earlier ++ said))) → Finished set before after runs.Going
   limited now w = record { said = w.said; taken = w.taken; comes = λ input. ap machine_outcome (sym (same input) ∙ w.so input []) }
 
   pub broken_off : Cut before after run → BrokenOff set before after

@@ -1,5 +1,5 @@
 -- What `exec` does with one file: it is read, compiled and run, with nothing stored.
-use Rattle.std.specs.Prelude.{◌≡◌, ℕ, ◌<◌, ◌++◌, List, [], Option, Some, None}
+use Rattle.std.specs.Prelude.{◌≡◌, ℕ, ◌<◌, List, Option, Some, None}
 use Rattle.std.specs.FinMap.{get}
 use Rattle.kc_io.specs.Files.{Files, Answers}
 use Rattle.kc_io.specs.Told.{appended}
@@ -11,7 +11,7 @@ use Rattle.class_file.specs.Machine as machine
 use Rattle.class_file.specs.Machine.{written}
 use Rattle.stack_code.specs.Agrees.{Agrees, NeverBrokenAt, NeverStuckAt, machine_outcome}
 use Rattle.kc_cli.specs.declared.report.Report.{Report}
-use Rattle.kc_cli.specs.declared.report.Report.TheVariants.{Ended, Threw, Words, Refused, Missing, ReadFailed, InputFailed, WriteFailed, StepLimit, Memory}
+use Rattle.kc_cli.specs.declared.report.Report.TheVariants.{Ended, Threw, Refused, Missing, ReadFailed, InputFailed, WriteFailed, StepLimit, Memory}
 use Rattle.kc_cli.specs.Form.{Form}
 
 -- the steps that a program may take

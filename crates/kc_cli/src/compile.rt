@@ -1,7 +1,7 @@
 //! The class files of a program.
 
 ghost use Rattle.std.specs.Prelude.{◌≡◌, ◌∷◌, [], IfOk, codes};
-ghost use Rattle.stack_code.specs.Agrees.{IsCompiled};
+ghost use Rattle.stack_code.specs.Agrees.{IsCompiled, IsOwnName};
 ghost use Rattle.kc_cli.specs.Compiled.{HasMain, HasShortCode};
 
 use class_file::class::{ClassFile, Method, Set};
@@ -29,6 +29,7 @@ fn alone<T: Drop>(alloc: Global, item: T) -> Result<Items<T>, Memory>
 fn class_of(alloc: Global, name: Text, pool: Pool, method: Method) -> Result<ClassFile, Memory>
     ensures name { IfOk result (λ c. c.this_name ≡ name) }
     ensures pool { IfOk result (λ c. c.pool ≡ pool) }
+    ensures above { IfOk result (λ c. c.super_name ≡ codes "java/lang/Object") }
     ensures methods { IfOk result (λ c. c.methods ≡ method ∷ []) }
 {
     Ok(ClassFile {
@@ -48,7 +49,8 @@ fn class_of(alloc: Global, name: Text, pool: Pool, method: Method) -> Result<Cla
 /// It is `TooLarge` only where the code has more than 65,535 instructions, `main` more than 65,535 locals, or the class more
 /// than 65,534 constants.
 pub fn compile(alloc: Global, program: &Program, name: Text) -> Result<Set, Fail<TooLarge>>
-    requires { HasMain program.now }
+    requires main { HasMain program.now }
+    requires own { IsOwnName name }
     ensures compiled { IfOk result (λ set. IsCompiled set program.now 0) }
     ensures short { IfOk result (λ set. HasShortCode set) }
 {

@@ -2,6 +2,7 @@
 
 ghost use Rattle.std.specs.Prelude.{◌≡◌, ◌≤◌, ℕ, List, None, IfOk, IfErr};
 ghost use Rattle.kc_cli.specs.SourceFile.{IsSourceFile};
+ghost use Rattle.class_file.specs.Lots.{IsFirstLot};
 ghost use Rattle.stack_code.specs.Agrees.{NeverStuckAt};
 ghost use Rattle.kc_cli.specs.Compiled.{HasShortCode};
 ghost use Rattle.kc_cli.specs.Execution.{HasFile, ReadFails, Builds, BuildFails, Runs};
@@ -14,6 +15,7 @@ use class_file::class::Set;
 use class_machine::{Machine, RunEnd};
 use kc_io::{Folder, FolderRead, Sink, Source};
 use kc_text::{Fail, Memory};
+use stack_code::method::{compiled_is_first_lot, files_have_own_names};
 use std::alloc::Global;
 
 // The steps that a program may take.
@@ -46,6 +48,7 @@ fn read_file<'a, T: Folder>(
 fn build<'a>(alloc: Global, file: &Name<'a>, bytes: &[u8]) -> Result<Set, Report<'a>>
     requires { IsSourceFile file.now }
     ensures ok { IfOk result (λ set. Builds bytes.now set) }
+    ensures lot { IfOk result (λ set. IsFirstLot set) }
     ensures short { IfOk result (λ set. HasShortCode set) }
     ensures err { IfErr result (λ r. BuildFails file.now bytes.now r) }
 {
@@ -65,6 +68,8 @@ fn build<'a>(alloc: Global, file: &Name<'a>, bytes: &[u8]) -> Result<Set, Report
         Ok(name) => name,
         Err(_) => return Err(Report::Memory),
     };
+    files_have_own_names();
+    compiled_is_first_lot();
     match compile(alloc, &program, name) {
         Ok(set) => Ok(set),
         Err(_) => Err(Report::Memory),
@@ -79,6 +84,7 @@ fn run_set<I: Source, O: Sink>(
     out: &mut O,
 ) -> Report<'static>
     requires short { HasShortCode set.now }
+    requires lot { IsFirstLot set.now }
     requires unstuck { (input : List ℕ) → NeverStuckAt set.now input }
     ensures ran { Runs set.now (I.faults input.old) (I.faults input.new) (O.faults out.old) (O.faults out.new) (O.taken out.old) (O.taken out.new) result }
     ensures input { input.new ≡ input.old }

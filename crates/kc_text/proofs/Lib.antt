@@ -1,3 +1,4 @@
 pub mod Different
 pub mod Reading
+pub mod Spelling
 pub mod Transcoding

@@ -1,3 +1,4 @@
 pub mod Fail
+pub mod Modified
 pub mod NameList
 pub mod Unicode

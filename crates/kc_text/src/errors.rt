@@ -62,3 +62,11 @@ pub struct BadUtf8 {
     /// The length in bytes of the longest prefix that is UTF-8.
     pub at: usize,
 }
+
+/// The bytes are not modified UTF-8 (JVM Specification SE 8, 4.4.7).
+#[derive(Clone, Copy, Debug, PartialEq, Eq, Error)]
+#[error("not modified UTF-8 from byte {at} on")]
+pub struct BadModified {
+    /// The length in bytes of the longest prefix that is modified UTF-8.
+    pub at: usize,
+}

@@ -2,11 +2,12 @@
 #![tactic(auto)]
 
 mod errors;
+mod modified;
 mod name_list;
 mod texts;
 mod utf8;
 
-pub use errors::{BadUtf8, Fail, Memory};
+pub use errors::{BadModified, BadUtf8, Fail, Memory};
 pub use name_list::Names;
 pub use texts::Text;
 

@@ -114,3 +114,57 @@ fn keeps_want_of_memory_apart(rt: HostRuntime) {
     assert_eq!(rt; Fail::<BadUtf8>::from(refused), Fail::Memory);
     assert_ne!(rt; Fail::Found(BadUtf8 { at: 0 }), Fail::Memory);
 }
+
+/// The bytes are the ends of the ranges of the JVM Specification SE 8, 4.4.7.
+#[test]
+fn reads_and_writes_modified_utf8(rt: HostRuntime) -> Result<(), Failed> {
+    let table: [(&[u8], &[u16]); 9] = [
+        (b"", &[]),
+        (b"main\x01\x7F", &[0x6D, 0x61, 0x69, 0x6E, 1, 0x7F]),
+        (b"\xC0\x80", &[0]),
+        (b"\xC2\x80\xDF\xBF", &[0x80, 0x7FF]),
+        (b"\xE0\xA0\x80\xED\x9F\xBF", &[0x800, 0xD7FF]),
+        (b"\xED\xA0\x80\xED\xBF\xBF", &[0xD800, 0xDFFF]),
+        (b"\xED\xA0\xBD\xED\xB8\x80", &[0xD83D, 0xDE00]),
+        (b"\xED\xBE\x80\xED\xA0\x80", &[0xDF80, 0xD800]),
+        (b"\xEE\x80\x80\xEF\xBF\xBF", &[0xE000, 0xFFFF]),
+    ];
+    for (bytes, units) in table {
+        let text = Text::from_modified(rt.alloc(), bytes)?;
+        assert_eq!(rt; text.units(), units, "of {bytes:?}");
+        assert_eq!(rt;
+            text.to_modified(rt.alloc())?.as_slice(),
+            bytes,
+            "of {units:?}"
+        );
+    }
+    Ok(())
+}
+
+#[test]
+fn refuses_other_modified_bytes(rt: HostRuntime) {
+    let table: [(&[u8], usize); 14] = [
+        (b"\x00", 0),
+        (b"a\x00b", 1),
+        (b"\x80", 0),
+        (b"\xC0\x81", 0),
+        (b"\xC1\xBF", 0),
+        (b"\xC2", 0),
+        (b"\xC2\x7F", 0),
+        (b"\xC2\xC0", 0),
+        (b"\xE0\x80\x80", 0),
+        (b"\xE0\x9F\xBF", 0),
+        (b"a\xE0\xA0", 1),
+        (b"\xC3\xA9\xE4\xB8\x2D", 2),
+        (b"ok\xF0\x9F\x98\x80", 2),
+        (b"\xED\xA0\xBD\xFF", 3),
+    ];
+    for (bytes, at) in table {
+        let refused = Text::from_modified(rt.alloc(), bytes);
+        assert_eq!(rt;
+            refused,
+            Err(Fail::Found(BadModified { at })),
+            "of {bytes:?}"
+        );
+    }
+}

@@ -12,6 +12,7 @@ impl Text {
     /// The text whose UTF-8 the bytes are. A byte order mark is a character like any other.
     pub fn from_utf8(alloc: Global, bytes: &[u8]) -> Result<Text, Fail<BadUtf8>>
         ensures ok { IfOk result (λ text. IsTranscoded bytes.now text) }
+        ensures only { IfOk result (λ text. (units : List ℕ) → IsTranscoded bytes.now units → units ≡ text) }
         ensures refused { IfFound result (λ _. ¬ (IsUtf8 bytes.now)) }
         ensures at { IfFound result (λ bad. IsValidUpTo bytes.now bad.at) }
     {

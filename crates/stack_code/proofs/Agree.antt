@@ -1,28 +1,28 @@
 -- The machine on compiled code agrees with the meaning of the program.
-use Rattle.std.proofs.Common.{◌≡◌, ℕ, zero, suc, ◌+◌, ◌*◌, ◌<◌, ◌≤◌, List, [], ◌∷◌, ◌++◌, length, Option, Some, None, Bool, true, false, refl, sym, ap, ◌∙◌, subst, arith}
-use Rattle.std.specs.Prelude.{slice_get, replicate, codes}
+use Rattle.std.proofs.Common.{◌≡◌, ℕ, zero, suc, ◌+◌, ◌-◌, ◌≤◌, List, [], ◌∷◌, ◌++◌, length, Option, Some, None, true, refl, sym, ap, ◌∙◌, subst, arith}
+use Rattle.std.specs.Prelude.{slice_get, replicate}
 use Rattle.std.proofs.Math.ListN.{length-replicate}
 use Rattle.kc_core.specs.declared.tree.TypeTree.{TypeTree}
 use Rattle.kc_core.specs.declared.tree.TypeTree.TheVariants as type_is
-use Rattle.kc_core.specs.declared.tree.Function.{Function}
 use Rattle.kc_core.specs.declared.tree.Program.{Program}
 use Rattle.kc_core.specs.Runs as runs
 use Rattle.kc_core.specs.Agreement.{agree, slower}
-use Rattle.kc_core.specs.Values.{Value, Int, Text, UnitValue, has_type}
+use Rattle.kc_core.specs.Values.{Value, Int, Text, UnitValue}
 use Rattle.kc_core.specs.Meaning as source
 use Rattle.class_file.specs.declared.value.Value.{Value as Slot}
 use Rattle.class_file.specs.declared.value.Value.TheVariants as slot
 use Rattle.class_file.specs.declared.class.Set.{Set}
-use Rattle.class_file.specs.declared.class.Method.{Method}
-use Rattle.class_file.specs.Machine.{Active, Object, State, Ending, Ended, Threw, Stuck, Next, Going, Over, step, begin, on_from, machine, first, first_frame, main_class, main_of, entered, methods_of, method_named, class_named, class_pool, method_at, is_unhandled, handed, written}
+use Rattle.class_file.specs.Natives.{Object}
+use Rattle.class_file.specs.Machine.{Ending, Ended, Stuck, Next, Going, Over, on_from, machine, first, first_heap, first_statics, first_locals, handlers_of, written}
 use Rattle.class_file.specs.Runs.{on_add, over_after, grows}
-use Rattle.stack_code.specs.Code.{Operation, Leave, bytes, discards, Emitted, code_of, body_code}
-use Rattle.stack_code.specs.Agrees.{ending_of, source_outcome, machine_outcome, meaning_run, machine_run, IsCodeOf, IsCompiled, NeverBrokenAt, CompiledAgrees}
-use Rattle.stack_code.proofs.Runs.{Represents, Typed, Held, Spot, Quiet, live, IsGoing, printed, At, HasAt, has_front, has_back, factor, Reaches, Hangs, Run, Ready}
-use Rattle.stack_code.proofs.Steps.{frame, state, discard, leave}
+use Rattle.stack_code.specs.Code.{Leave, Spells, discards, code_of, body_code}
+use Rattle.stack_code.specs.Agrees.{source_outcome, machine_outcome, meaning_run, machine_run, IsCompiled, NeverBrokenAt, CompiledAgrees}
+use Rattle.stack_code.proofs.Runs.{Typed, Held, Spot, Quiet, live, IsGoing, printed, HasAt, has_front, factor, Run, Ready}
+use Rattle.stack_code.proofs.Steps.{discard, leave}
 use Rattle.stack_code.proofs.Single.{behind}
 use Rattle.stack_code.proofs.Nodes.{sized, type_of_code, node_follows}
 use Rattle.stack_code.proofs.Placed.{has_all}
+use Rattle.stack_code.proofs.Found.{method_is, pool_is, main_called}
 
 -- the machine is a lawful run
 over_is : (x : Next) → runs.IsOver (machine_outcome x) → (how : Ending) × (out : List ℕ) × (x ≡ Over how out)
@@ -37,9 +37,9 @@ pub machine_lawful : (set : Set) (input : List ℕ) → runs.Lawful (machine_run
 machine_lawful set input = record {
   stays = λ n m le over.
       let h = over_is (machine set input n) over in
-      ap machine_outcome (over_after set n m (Going (first input)) h.0 h.1 le h.2 ∙ sym h.2);
+      ap machine_outcome (over_after set n m (Going (first set input)) h.0 h.1 le h.2 ∙ sym h.2);
   grows = λ n m le.
-      let g = grows set n m (Going (first input)) le in
+      let g = grows set n m (Going (first set input)) le in
       (g.0, ap (λ w. w ++ g.0) (said_is (machine set input n)) ∙ g.1 ∙ sym (said_is (machine set input m)));
 }
 
@@ -54,38 +54,36 @@ going_is (Over how o) out g e = absurd g
 
 module _ (set : Set) (program : Program) (main : ℕ) (c : IsCompiled set program main) (input : List ℕ) (sound : NeverBrokenAt program main input) where
   o : Spot
-  o = record { class = c.class; method = c.place; rest = [] }
+  o = record { class = 0; method = 0; rest = []; statics = first_statics set; started = true ∷ [] }
 
   known : ℕ → source.State
   known n = record { locals = source.unset (length c.function.locals); input = input; out = []; units = n }
 
   locals : List Slot
-  locals = replicate c.method.max_locals slot.Nothing
+  locals = first_locals c.method.max_locals []
 
   -- the call of main
-  begins : (n : ℕ) → on_from set 1 (Going (first input)) ≡ live o 0 locals [] [] (known n)
-  unfolding step begin o known locals
-  begins n =
-      ap (main_class set (first input)) c.class_is ∙ ap (main_of set (first input) c.class) c.place_is ∙ ap (entered (first input) c.class c.place) c.method_is
-
-  no_handlers : (m : Method) → m.handlers ≡ [] → is_unhandled (Some m) ≡ true
-  no_handlers m e = ap (λ hs. elim hs [ [] ↦ true | _ ∷ _ ↦ false ]) e
+  begins : (n : ℕ) → on_from set 1 (Going (first set input)) ≡ live o 0 locals [] first_heap (known n)
+  unfolding o known locals
+  begins n = main_called set program main c input
 
   quiet : Quiet set o
   unfolding o
-  quiet = (ap is_unhandled c.method_is ∙ no_handlers c.method c.code.unhandled, tt)
+  quiet = (ap handlers_of (method_is set program main c) ∙ c.code.unhandled, tt)
 
   code : HasAt set o 0 (body_code c.function.body)
   unfolding o
-  code = has_all set o c.method c.method_is (body_code c.function.body) c.code.spelled
+  code =
+      has_all set o c.method (method_is set program main c) (body_code c.function.body)
+      (subst (λ pool. Spells pool 0 c.method.code (body_code c.function.body)) (sym (pool_is set program main c)) c.code.spelled)
 
   abbrev S : ℕ
   S = (code_of c.function.body).nodes
 
-  held : (n : ℕ) → Held [] locals (known n).locals
+  held : (n : ℕ) → Held first_heap locals (known n).locals
   unfolding known locals
   held n = record {
-    room = let a = (let none : Option Value = None in length-replicate (length c.function.locals) none) in let b = length-replicate c.method.max_locals slot.Nothing in omega (arith, a, b, c.code.room);
+    room = let a = (let none : Option Value = None in length-replicate (length c.function.locals) none) in let b = length-replicate (c.method.max_locals - 0) slot.Nothing in omega (arith, a, b, c.code.room);
     same = λ x v e. absurd (nothing_set (length c.function.locals) x v e);
   }
 
@@ -106,11 +104,11 @@ module _ (set : Set) (program : Program) (main : ℕ) (c : IsCompiled set progra
   returns at ls h s type_is.Unit (Text t) xs code is = absurd (let q = is.0 in cc)
 
   body : source.Completion → Type 0
-  body r = (n : ℕ) → source.meaning program main input n ≡ source.outcome_of r → Run set S o (Typed (code_of c.function.body).ty) (live o 0 locals [] [] (known n)) [] n 0 S locals (0 + (code_of c.function.body).size) [] r → runs.Says (factor + 1) S (machine_run set input) n (source_outcome (source.outcome_of r))
+  body r = (n : ℕ) → source.meaning program main input n ≡ source.outcome_of r → Run set S o (Typed (code_of c.function.body).ty) (live o 0 locals [] first_heap (known n)) first_heap n 0 S locals (0 + (code_of c.function.body).size) [] r → runs.Says (factor + 1) S (machine_run set input) n (source_outcome (source.outcome_of r))
 
   -- from the first step on
-  from_start : (n j : ℕ) → on_from set (1 + j) (Going (first input)) ≡ on_from set j (live o 0 locals [] [] (known n))
-  from_start n j = on_add set 1 j (Going (first input)) ∙ ap (on_from set j) (begins n)
+  from_start : (n j : ℕ) → on_from set (1 + j) (Going (first set input)) ≡ on_from set j (live o 0 locals [] first_heap (known n))
+  from_start n j = on_add set 1 j (Going (first set input)) ∙ ap (on_from set j) (begins n)
 
   comes_to : (r : source.Completion) → body r
   unfolding body known
@@ -120,7 +118,7 @@ module _ (set : Set) (program : Program) (main : ℕ) (c : IsCompiled set progra
       (subst (λ ty. Typed ty g.h' v g.xs) (type_of_code c.function.body) g.is) in (
         1 + (g.j + after.0),
         omega (arith, g.most, g.units, after.1),
-        ap machine_outcome (from_start n (g.j + after.0) ∙ on_add set g.j after.0 (live o 0 locals [] [] (known n)) ∙ ap (on_from set after.0) g.runs ∙ after.2),
+        ap machine_outcome (from_start n (g.j + after.0) ∙ on_add set g.j after.0 (live o 0 locals [] first_heap (known n)) ∙ ap (on_from set after.0) g.runs ∙ after.2),
       )
   comes_to (source.Throws x s) n e g =
       (1 + g.j, omega (arith, g.most, g.units), ap machine_outcome (from_start n g.j ∙ g.runs))
@@ -132,7 +130,7 @@ module _ (set : Set) (program : Program) (main : ℕ) (c : IsCompiled set progra
   unfolding known
   meaning_is n = ap (λ f. source.start_of f input n) c.function_is
 
-  ready : (n : ℕ) → Ready set S n (code_of c.function.body) (known n) o 0 locals []
+  ready : (n : ℕ) → Ready set S n (code_of c.function.body) (known n) o 0 locals first_heap
   unfolding known
   ready n = record {
     deep = omega arith;
@@ -146,7 +144,7 @@ module _ (set : Set) (program : Program) (main : ℕ) (c : IsCompiled set progra
   unfolding body known
   says n =
       subst (λ r. runs.Says (factor + 1) S (machine_run set input) n (source_outcome r)) (sym (meaning_is n))
-      (comes_to (source.eval n c.function.body (known n)) n (meaning_is n) (node_follows set S n c.function.body (known n) o 0 locals [] [] (ready n)))
+      (comes_to (source.eval n c.function.body (known n)) n (meaning_is n) (node_follows set S n c.function.body (known n) o 0 locals [] first_heap (ready n)))
 
   pub agrees_by_factor : runs.AgreesBy (factor + 1) (meaning_run program main input) (machine_run set input)
   agrees_by_factor = agree Ending (factor + 1) S (meaning_run program main input) (machine_run set input) (machine_lawful set input) says

@@ -1,23 +1,22 @@
 -- Emitting one stretch of code behind another.
-use Rattle.std.proofs.Common.{◌≡◌, ℕ, zero, suc, ◌+◌, ◌⊎◌, inl, inr, List, [], ◌∷◌, ◌++◌, length, Option, Some, None, refl, sym, ap, ◌∙◌, subst, arith, append_assoc, append-nil, ⊎_elim}
-use Rattle.std.specs.Prelude.{slice_get, ℤ}
+use Rattle.std.proofs.Common.{◌≡◌, ℕ, ◌+◌, inl, inr, List, [], ◌∷◌, ◌++◌, length, Option, Some, None, refl, sym, ap, ◌∙◌, subst, arith, append_assoc, append-nil, ⊎_elim}
+use Rattle.std.specs.Prelude.{slice_get}
 use Rattle.class_file.specs.declared.pool.Entry.{Entry}
 use Rattle.class_file.specs.declared.pool.Entry.TheVariants.{Utf8, Integer, Long, Class, Str, FieldRef, MethodRef, InterfaceMethodRef, NameAndType}
-use Rattle.class_file.specs.declared.value.NativeId.{NativeId}
 use Rattle.class_file.specs.declared.instr.Instr.{Instr}
-use Rattle.class_file.specs.Rows.{length_of, row_of}
-use Rattle.class_file.specs.Pools.{Slots, flat, entry_at, text_in, name_in, typed_in, method_in, member_of, Member, constant_in, literal_of, Constant, Extends}
-use Rattle.class_file.specs.Machine.{callee}
-use Rattle.stack_code.specs.Code.{Operation, PushInt, PushText, Load, Store, Compute, Negate, Discard, Call, Leave, bytes_of, StandsFor, Spells}
+use Rattle.class_file.specs.Pools.{Slots, flat, entry_at, text_in, name_in, typed_in, method_in, member_of, Member, Named, named, named_in, constant_in, literal_of, Constant, Extends}
+use Rattle.class_file.specs.declared.value.NativeId.{NativeId}
+use Rattle.class_file.specs.Lots.{NamesNative}
+use Rattle.stack_code.specs.Code.{native_of, Operation, PushInt, PushText, Load, Store, Compute, Negate, Discard, Call, Leave, bytes_of, StandsFor, Spells}
 use Rattle.std.proofs.Common.{drop, map, ◌<◌, ◌≤◌, Bool, true, false, length-drop, get_or}
 use Rattle.std.proofs.lemmas.List.{drop_all, drop_more}
 use Rattle.std.proofs.lemmas.Bool.{cases_lt}
 use Rattle.stack_code.specs.Code.{discards, to_text}
 use Rattle.stack_code.specs.Emission.{after_part, after_text, texts_left}
 use Rattle.stack_code.proofs.Nodes.{type_of_code}
-use Rattle.class_file.specs.declared.value.NativeId.TheVariants as native_is
+use Rattle.stack_code.specs.declared.constants.Helper.TheVariants as helper
 use Rattle.kc_core.specs.declared.tree.Core.{Core}
-use Rattle.stack_code.specs.Code.{code_of, Emitted, Several, in_turn, values, texts, further_texts}
+use Rattle.stack_code.specs.Code.{code_of, in_turn, values, further_texts}
 use Rattle.stack_code.specs.Emission.{Emits, IsFor, NamesTypes, Partly}
 use Rattle.stack_code.proofs.Lists.{get_front}
 
@@ -120,22 +119,40 @@ method_of p q m x (FieldRef b c) h = cc
 method_of p q m x (InterfaceMethodRef b c) h = cc
 method_of p q m x (NameAndType b c) h = cc
 
-method_stays : (p q : Slots) (i : ℕ) (m : Member) → Extends p q → (w : Option Entry) → entry_at p i ≡ w → method_in p w ≡ Some m → method_in q (entry_at q i) ≡ Some m
-method_stays p q i m x (Some e) h k = ap (method_in q) (entry_stays p q i e x h) ∙ method_of p q m x e k
-method_stays p q i m x None h k = cc
-
 -- a method's entry over the entries of its class and of its name
-pub named_method : (p q r : Slots) (i owner member : ℕ) (o n d : List ℕ) → Extends p q → Extends q r → name_in p (entry_at p owner) ≡ Some o → NamesTypes q member n d → entry_at r i ≡ Some (MethodRef owner member) → method_in r (entry_at r i) ≡ Some (record { owner = o; name = n; descriptor = d })
+pub named_method : (p q r : Slots) (i owner member : ℕ) (o n d : List ℕ) → Extends p q → Extends q r → name_in p (entry_at p owner) ≡ Some o → NamesTypes q member n d → entry_at r i ≡ Some (MethodRef owner member) → named_in r (entry_at r i) ≡ Some (record { is_interface = false; member = record { owner = o; name = n; descriptor = d } })
 named_method p q r i owner member o n d x y h t e =
-    ap (method_in r) e
-    ∙ ap (λ w. typed_in r w (entry_at r member)) (name_stays p r owner o (extends_on p q r x y) (entry_at p owner) refl h)
-    ∙ ap (typed_in r (Some o)) (entry_stays q r member (NameAndType t.first t.second) y t.is)
-    ∙ ap (λ w. member_of (Some o) w (text_in (entry_at r t.second))) (text_kept q r t.first n y t.name_is)
-    ∙ ap (λ w. member_of (Some o) (Some n) w) (text_kept q r t.second d y t.descriptor_is)
+    ap (named_in r) e
+    ∙ ap (λ w. named false (typed_in r w (entry_at r member))) (name_stays p r owner o (extends_on p q r x y) (entry_at p owner) refl h)
+    ∙ ap (λ w. named false (typed_in r (Some o) w)) (entry_stays q r member (NameAndType t.first t.second) y t.is)
+    ∙ ap (λ w. named false (member_of (Some o) w (text_in (entry_at r t.second)))) (text_kept q r t.first n y t.name_is)
+    ∙ ap (λ w. named false (member_of (Some o) (Some n) w)) (text_kept q r t.second d y t.descriptor_is)
 
-called_there : (w : Option Member) (n : NativeId) → callee w ≡ Some n → (m : Member) × (w ≡ Some m)
-called_there (Some m) n h = (m, refl)
-called_there None n h = cc
+member_there : (of_interface : Bool) (w : Option Member) (n : Named) → named of_interface w ≡ Some n → (m : Member) × (w ≡ Some m)
+member_there of_interface (Some m) n h = (m, refl)
+member_there of_interface None n h = cc
+
+named_of : (p q : Slots) (n : Named) → Extends p q → (e : Entry) → named_in p (Some e) ≡ Some n → named_in q (Some e) ≡ Some n
+named_of p q n x (MethodRef c d) h =
+    let m = member_there false (method_in p (Some (MethodRef c d))) n h in
+    ap (named false) (method_of p q m.0 x (MethodRef c d) m.1 ∙ sym m.1) ∙ h
+named_of p q n x (InterfaceMethodRef c d) h =
+    let m = member_there true (typed_in p (name_in p (entry_at p c)) (entry_at p d)) n h in
+    ap (named true) (typed_stays p q d (name_in p (entry_at p c)) (name_in q (entry_at q c)) m.0 x (λ t k. name_stays p q c t x (entry_at p c) refl k) (entry_at p d) refl m.1 ∙ sym m.1) ∙ h
+named_of p q n x (Integer b) h = cc
+named_of p q n x (Utf8 b) h = cc
+named_of p q n x (Long b) h = cc
+named_of p q n x (Class b) h = cc
+named_of p q n x (Str b) h = cc
+named_of p q n x (FieldRef b c) h = cc
+named_of p q n x (NameAndType b c) h = cc
+
+named_stays : (p q : Slots) (i : ℕ) (n : Named) → Extends p q → (w : Option Entry) → entry_at p i ≡ w → named_in p w ≡ Some n → named_in q (entry_at q i) ≡ Some n
+named_stays p q i n x (Some e) h k = ap (named_in q) (entry_stays p q i e x h) ∙ named_of p q n x e k
+named_stays p q i n x None h k = cc
+
+native_stays : (p q : Slots) (i : ℕ) (id : NativeId) → Extends p q → NamesNative (named_in p (entry_at p i)) id → NamesNative (named_in q (entry_at q i)) id
+native_stays p q i id x n = record { member = n.member; is = n.is; named_is = named_stays p q i _ x (entry_at p i) refl n.named_is }
 
 -- an instruction stands for an operation over a larger pool too
 stands_kept : (p q : Slots) (at : ℕ) (i : Instr) (op : Operation) → Extends p q → StandsFor p at i op → StandsFor q at i op
@@ -147,9 +164,7 @@ stands_kept p q at i (Store k n) x h = h
 stands_kept p q at i (Compute o) x h = h
 stands_kept p q at i Negate x h = h
 stands_kept p q at i Discard x h = h
-stands_kept p q at i (Call n) x h =
-    let m = called_there (method_in p (entry_at p h.0)) n h.2 in
-    (h.0, h.1, ap callee (method_stays p q h.0 m.0 x (entry_at p h.0) refl m.1 ∙ sym m.1) ∙ h.2)
+stands_kept p q at i (Call n) x h = (h.0, h.1, native_stays p q h.0 (native_of n) x h.2)
 stands_kept p q at i Leave x h = h
 
 spells_kept : (p q : Slots) (at : ℕ) (is : List Instr) (ops : List Operation) → Extends p q → Spells p at is ops → Spells q at is ops
@@ -230,7 +245,7 @@ turn_next es i e last lt h f g =
 
 text_is : (e : Core) (rest : List Core) (first : Bool) → texts_left first (map code_of (e ∷ rest)) ≡ ((code_of e).code ++ after_text first (code_of e).ty) ++ texts_left false (map code_of rest)
 text_is e rest true = sym (append_assoc (code_of e).code (to_text (code_of e).ty) (further_texts (map code_of rest)).code)
-text_is e rest false = sym (append_assoc (code_of e).code (to_text (code_of e).ty ++ Call native_is.TextsConcat ∷ []) (further_texts (map code_of rest)).code)
+text_is e rest false = sym (append_assoc (code_of e).code (to_text (code_of e).ty ++ Call helper.TextsConcat ∷ []) (further_texts (map code_of rest)).code)
 
 pub text_next : (es : List Core) (i : ℕ) (e : Core) (first : Bool) → i < length es → e ≡ get_or es i e → texts_left first (map code_of (drop i es)) ≡ ((code_of e).code ++ after_text first e.ty) ++ texts_left false (map code_of (drop (i + 1) es))
 text_next es i e first lt h =

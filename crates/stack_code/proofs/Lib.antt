@@ -1,3 +1,4 @@
+pub mod Found
 pub mod Runs
 pub mod Steps
 pub mod Lists
@@ -9,3 +10,5 @@ pub mod Nodes
 pub mod Placed
 pub mod Agree
 pub mod Emitting
+pub mod FirstLot
+pub mod OwnNames

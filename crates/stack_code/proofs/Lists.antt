@@ -1,11 +1,11 @@
 -- Lists, heaps and locals after a change.
-use Rattle.std.proofs.Common.{◌≡◌, ℕ, zero, suc, ◌+◌, ◌<◌, ◌≤◌, ◌⊎◌, inl, inr, List, [], ◌∷◌, ◌++◌, length, Option, Some, None, refl, sym, ap, ◌∙◌, subst, arith, ⊎_elim}
+use Rattle.std.proofs.Common.{◌≡◌, ℕ, zero, suc, ◌+◌, ◌<◌, ◌⊎◌, inl, inr, List, [], ◌∷◌, ◌++◌, length, Option, Some, None, refl, sym, ap, ◌∙◌, subst, arith, ⊎_elim}
 use Rattle.std.specs.Prelude.{slice_get, slice_set}
 use Rattle.std.proofs.lemmas.Bool.{cases_lt}
 use Rattle.kc_core.specs.Values.{Value}
 use Rattle.class_file.specs.declared.value.Value.{Value as Slot}
-use Rattle.class_file.specs.Machine.{Object}
-use Rattle.stack_code.specs.Code.{Operation, bytes_of, bytes}
+use Rattle.class_file.specs.Natives.{Object}
+use Rattle.stack_code.specs.Code.{Operation, bytes}
 use Rattle.stack_code.proofs.Runs.{Grows, Holds, Held}
 
 pub bytes_append : (a b : List Operation) → bytes (a ++ b) ≡ bytes a + bytes b

@@ -1,6 +1,5 @@
 -- Every node: its size is that of its code, and its code does what it does.
-use Rattle.std.proofs.Common.{append-nil, ◌≡◌, ℕ, zero, suc, ◌+◌, ◌≤◌, List, [], ◌∷◌, ◌++◌, map, Option, Some, None, refl, sym, ap, ◌∙◌, subst, arith}
-use Rattle.std.specs.Prelude.{slice_get}
+use Rattle.std.proofs.Common.{append-nil, ◌≡◌, ℕ, zero, suc, List, [], ◌∷◌, ◌++◌, map, Some, None, refl, sym, ap, ◌∙◌, subst, arith}
 use Rattle.kc_core.specs.declared.tree.TypeTree.{TypeTree}
 use Rattle.kc_core.specs.declared.tree.Span.{Span}
 use Rattle.kc_core.specs.declared.tree.UnaryOp.TheVariants as unary
@@ -11,11 +10,10 @@ use Rattle.kc_core.specs.declared.tree.Kind.TheOpen.{Kind-F, Core-F}
 use Rattle.kc_core.specs.declared.tree.Kind.TheViews.{roll-Kind, outs-NumBinary, outs-Concat, NumBinary as made-NumBinary, Concat as made-Concat}
 use Rattle.kc_core.specs.declared.tree.BinaryOp.{BinaryOp}
 use Rattle.kc_core.specs.declared.tree.Kind.TheFolds.{map-Kind, fold-Kind, fold_out-Core, fold_out-Kind, fold-roll-Kind, ind-Core}
-use Rattle.kc_core.specs.Values.{Int, Text}
-use Rattle.kc_core.specs.Meaning.{State, Completion, Gives, Stops, then_do, enter, checked, rule, eval}
+use Rattle.kc_core.specs.Meaning.{State, Completion, then_do, enter, checked, rule, eval}
 use Rattle.class_file.specs.declared.class.Set.{Set}
-use Rattle.class_file.specs.declared.value.NativeId.TheVariants as native_is
-use Rattle.stack_code.specs.Code.{Operation, Compute, Negate, Call, bytes, Emitted, leaf, loads, stores, then_code, two_code, operator_of, texts, values, in_turn, whole, kind_code, core_code, code_of}
+use Rattle.stack_code.specs.declared.constants.Helper.TheVariants as helper
+use Rattle.stack_code.specs.Code.{Operation, Compute, Negate, Call, Emitted, stores, then_code, two_code, operator_of, texts, values, in_turn, kind_code, core_code, code_of}
 use Rattle.stack_code.proofs.Runs.{Sized, Follows, follows_none}
 use Rattle.stack_code.proofs.Lists.{bytes_append}
 use Rattle.stack_code.proofs.Single.{int_follows, text_follows, read_follows, unset_follows}
@@ -48,7 +46,7 @@ sized_layer A B g f sized (Kind-F.Declare x (Some e)) ty = then_sized (f e) (sto
 sized_layer A B g f sized (Kind-F.NumBinary op a b) ty = two_sized (f a) (f b) (Compute (operator_of op) ∷ []) ty (sized a) (sized b)
 sized_layer A B g f sized (Kind-F.NumUnary unary.Minus a) ty = then_sized (f a) (Negate ∷ []) ty (sized a)
 sized_layer A B g f sized (Kind-F.Concat es) ty = whole_sized (texts (map f es)) [] ty (texts_sized B f sized es)
-sized_layer A B g f sized (Kind-F.CallNative native_kind.ConsoleWrite es) ty = whole_sized (values (map f es)) (Call native_is.ConsoleWrite ∷ []) ty (values_sized B f sized es)
+sized_layer A B g f sized (Kind-F.CallNative native_kind.ConsoleWrite es) ty = whole_sized (values (map f es)) (Call helper.ConsoleWrite ∷ []) ty (values_sized B f sized es)
 sized_layer A B g f sized (Kind-F.Block es) ty = whole_sized (in_turn (map f es)) [] ty (turns_sized B f sized es)
 
 map_twice : (A B C : Type 0) (f : B → C) (g : A → B) (es : List A) → map f (map g es) ≡ map (λ a. f (g a)) es

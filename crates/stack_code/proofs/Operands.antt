@@ -1,22 +1,23 @@
 -- Nodes with one child or two: their code does what they do.
-use Rattle.std.proofs.Common.{◌≡◌, ℕ, zero, suc, ◌+◌, ◌*◌, ◌<◌, ◌≤◌, ◌⊎◌, inl, inr, List, [], ◌∷◌, ◌++◌, length, Option, Some, None, Bool, true, false, refl, sym, ap, ◌∙◌, subst, arith, ⊎_elim}
-use Rattle.std.specs.Prelude.{slice_get, slice_set, ℤ, pos, nat_lt, if◌then◌else◌}
+use Rattle.std.proofs.Common.{◌≡◌, ℕ, suc, ◌+◌, ◌<◌, ◌≤◌, List, [], ◌∷◌, ◌++◌, length, Option, Some, None, false, refl, sym, ap, ◌∙◌, subst, arith}
+use Rattle.std.specs.Prelude.{slice_get, slice_set, ℤ, nat_lt}
 use Rattle.std.proofs.lemmas.Bool.{le-ltb}
 use Rattle.kc_core.specs.declared.tree.TypeTree.{TypeTree}
 use Rattle.kc_core.specs.declared.tree.TypeTree.TheVariants as type_is
 use Rattle.kc_core.specs.declared.tree.BinaryOp.{BinaryOp}
 use Rattle.kc_core.specs.declared.tree.BinaryOp.TheVariants.{Plus, Minus, Times, Div, Rem}
 use Rattle.kc_core.specs.declared.tree.Span.{Span}
-use Rattle.kc_core.specs.Values.{Value, Int, Text, UnitValue, has_type, arithmetic, negated}
-use Rattle.kc_core.specs.Meaning.{State, Completion, Gives, Throws, Stops, Breaks, then_do, enter, checked, declared, number_or_zero_divisor, division_by_zero, on_int}
+use Rattle.kc_core.specs.Values.{Value, Int, Text, UnitValue, arithmetic, negated}
+use Rattle.kc_core.specs.Meaning.{State, Completion, Gives, then_do, enter, checked, declared, number_or_zero_divisor, division_by_zero, on_int}
 use Rattle.class_file.specs.declared.value.Value.{Value as Slot}
 use Rattle.class_file.specs.declared.value.Value.TheVariants as slot
 use Rattle.class_file.specs.declared.value.Kind.{Kind as SlotKind}
 use Rattle.class_file.specs.declared.value.Kind.TheVariants as kinds
 use Rattle.class_file.specs.declared.class.Set.{Set}
-use Rattle.class_file.specs.Machine.{Object, TextObject, Next, Over, Threw, on_from, after, or_zero_divisor, int_answer, Goes}
-use Rattle.stack_code.specs.Code.{Operation, Store, Compute, Negate, bytes_of, bytes, Emitted, stores, then_code, two_code, operator_of, local_bytes}
-use Rattle.stack_code.proofs.Runs.{Grows, grows_none, Represents, represents_on, Typed, Holds, Held, Spot, Quiet, live, At, HasAt, has_front, has_back, Sized, factor, Reaches, Run, run_on, bind, own, ends_at, Ready, Follows, Inside, with_check, entered}
+use Rattle.class_file.specs.Natives.{Object}
+use Rattle.class_file.specs.Machine.{Next, Over, Threw, on_from, after, or_zero_divisor, int_answer, Goes}
+use Rattle.stack_code.specs.Code.{Operation, Compute, Negate, bytes, Emitted, stores, then_code, two_code, operator_of, local_bytes}
+use Rattle.stack_code.proofs.Runs.{grows_none, Represents, represents_on, Typed, Holds, Held, Spot, Quiet, live, HasAt, has_front, Sized, factor, Reaches, Run, run_on, bind, own, ends_at, Ready, Follows, Inside, with_check, entered}
 use Rattle.stack_code.proofs.Steps.{frame, state, store, negate, compute}
 use Rattle.stack_code.proofs.Lists.{get_same, get_other, set_length, within, held_write}
 use Rattle.stack_code.proofs.Single.{behind, unhandled}
@@ -130,7 +131,7 @@ module _ (set : Set) (S : ℕ) where
           own set S 1 c h factor 0 ls ls h (slot.Int z ∷ []) (λ h' zs. Represents h' (Int z) zs) s (λ ls' h' zs. live o (at + 1) ls' (zs ++ st) h' s) (omega arith) (step (Some z) e) refl (grows_none h) held refl
       by_answer None e =
           own set S 1 c h factor 0 ls ls h [] (λ h' zs. Unit {0}) s (λ ls' h' zs. Over (Threw division_by_zero.class division_by_zero.message) s.out) (omega arith)
-          (step None e ∙ unhandled set (frame o at ls (slot.Int n ∷ slot.Int m ∷ st) ∷ o.rest) s.out (quiet.0, quiet.1)) tt (grows_none h) held refl
+          (step None e ∙ unhandled set (state o at ls (slot.Int n ∷ slot.Int m ∷ st) h s) (frame o at ls (slot.Int n ∷ slot.Int m ∷ st) ∷ o.rest) (quiet.0, quiet.1)) tt (grows_none h) held refl
   compute_tail span op (Int m) (Text t) xs ys s o at ls st h code held quiet isx isy = tt
   compute_tail span op (Int m) UnitValue xs ys s o at ls st h code held quiet isx isy = tt
   compute_tail span op (Text t) y xs ys s o at ls st h code held quiet isx isy = tt

@@ -1,5 +1,5 @@
 -- Code that spells operations has an instruction for each at its place.
-use Rattle.std.proofs.Common.{◌≡◌, ℕ, zero, suc, ◌+◌, ◌-◌, ◌<◌, ◌≤◌, List, [], ◌∷◌, ◌++◌, Option, Some, None, Bool, true, false, cond, refl, sym, ap, ◌∙◌, subst, arith, append_assoc, append-nil}
+use Rattle.std.proofs.Common.{◌≡◌, ℕ, ◌+◌, ◌-◌, ◌≤◌, List, [], ◌∷◌, ◌++◌, Some, None, false, cond, refl, sym, ap, ◌∙◌, arith, append_assoc}
 use Rattle.std.specs.Prelude.{nat_lt, ◌==◌}
 use Rattle.std.proofs.lemmas.Bool.{le-ltb, ne_eqb}
 use Rattle.class_file.specs.declared.class.Set.{Set}
@@ -7,10 +7,9 @@ use Rattle.class_file.specs.declared.class.Method.{Method}
 use Rattle.class_file.specs.declared.instr.Instr.{Instr}
 use Rattle.class_file.specs.declared.instr.Instr.TheVariants as instr
 use Rattle.class_file.specs.Rows.{length_of, instr_at}
-use Rattle.class_file.specs.Pools.{Slots}
 use Rattle.class_file.specs.Machine.{fetch, method_at, instr_in, class_pool}
-use Rattle.stack_code.specs.Code.{Operation, bytes_of, bytes, StandsFor, Spells}
-use Rattle.stack_code.proofs.Runs.{Spot, At, HasAt}
+use Rattle.stack_code.specs.Code.{Operation, bytes_of, Spells}
+use Rattle.stack_code.proofs.Runs.{Spot, HasAt}
 
 positive : (i : Instr) → 1 ≤ length_of i
 positive instr.Nop = omega arith

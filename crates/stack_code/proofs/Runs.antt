@@ -1,8 +1,7 @@
 -- How stretches of a run of the machine are put together, beside the meaning of what they run.
-use Rattle.std.proofs.Common.{◌≡◌, ℕ, zero, suc, ◌+◌, ◌*◌, ◌<◌, ◌≤◌, ◌⊎◌, List, [], ◌∷◌, ◌++◌, length, Option, Some, None, Bool, true, false, refl, sym, ap, ◌∙◌, subst, arith}
-use Rattle.std.specs.Prelude.{slice_get, ℤ}
+use Rattle.std.proofs.Common.{◌≡◌, ℕ, zero, suc, ◌+◌, ◌*◌, ◌≤◌, List, [], ◌∷◌, ◌++◌, length, Option, Some, Bool, true, false, refl, ap, ◌∙◌, subst, arith}
+use Rattle.std.specs.Prelude.{slice_get}
 use Rattle.kc_core.specs.declared.tree.TypeTree.{TypeTree}
-use Rattle.kc_core.specs.declared.tree.TypeTree.TheVariants as type_is
 use Rattle.kc_core.specs.declared.tree.Span.{Span}
 use Rattle.kc_core.specs.Values.{Value, Int, Text, UnitValue, has_type}
 use Rattle.kc_core.specs.Meaning.{State, Completion, Gives, Throws, Stops, Breaks, then_do, enter, checked, if_typed}
@@ -11,7 +10,8 @@ use Rattle.class_file.specs.declared.value.Value.TheVariants as slot
 use Rattle.class_file.specs.declared.class.Set.{Set}
 use Rattle.class_file.specs.declared.instr.Instr.{Instr}
 use Rattle.class_file.specs.Rows.{length_of}
-use Rattle.class_file.specs.Machine.{Active, Object, TextObject, Next, Going, Over, Threw, step, on_from, fetch, class_pool, is_unhandled, method_at}
+use Rattle.class_file.specs.Natives.{Object, TextObject}
+use Rattle.class_file.specs.Machine.{Active, Next, Going, Over, Threw, on_from, fetch, class_pool, handlers_of, method_at}
 use Rattle.class_file.specs.Runs.{on_add}
 use Rattle.stack_code.specs.Code.{Operation, bytes_of, bytes, StandsFor, Emitted}
 
@@ -59,23 +59,25 @@ pub record Held (h : List Object) (ls : List Slot) (locals : List (Option Value)
 pub held_on : (h h' : List Object) (ls : List Slot) (locals : List (Option Value)) → Grows h h' → Held h ls locals → Held h' ls locals
 held_on h h' ls locals g held = record { room = held.room; same = λ x v e. holds_on h h' v (slice_get ls x) g (held.same x v e) }
 
--- the method that runs, and the frames that wait below it
+-- the method that runs, the frames that wait below it, and what no instruction of compiled code changes
 pub record Spot : Type 0 where
   pub class : ℕ
   pub method : ℕ
   pub rest : List Active
+  pub statics : List (List Slot)
+  pub started : List Bool
 
 -- no frame has handlers
 abbrev pub Unhandled : Set → List Active → Type 0
 Unhandled set [] = Unit {0}
-Unhandled set (f ∷ fs) = (is_unhandled (method_at set f.class f.method) ≡ true) × Unhandled set fs
+Unhandled set (f ∷ fs) = (handlers_of (method_at set f.class f.method) ≡ []) × Unhandled set fs
 
 abbrev pub Quiet : Set → Spot → Type 0
-Quiet set o = (is_unhandled (method_at set o.class o.method) ≡ true) × Unhandled set o.rest
+Quiet set o = (handlers_of (method_at set o.class o.method) ≡ []) × Unhandled set o.rest
 
 abbrev pub live : Spot → ℕ → List Slot → List Slot → List Object → State → Next
 live o at ls st h s =
-    Going (record { begun = true; frames = record { class = o.class; method = o.method; at = at; locals = ls; stack = st } ∷ o.rest; heap = h; input = s.input; out = s.out })
+    Going (record { frames = record { class = o.class; method = o.method; at = at; locals = ls; stack = st; starts = false } ∷ o.rest; heap = h; statics = o.statics; started = o.started; input = s.input; out = s.out })
 
 abbrev pub IsGoing : Next → Type 0
 IsGoing (Going s) = Unit {0}

@@ -1,24 +1,21 @@
 -- Nodes with a list of children: their code does what they do.
-use Rattle.std.proofs.Common.{◌≡◌, ℕ, zero, suc, ◌+◌, ◌*◌, ◌<◌, ◌≤◌, List, [], ◌∷◌, ◌++◌, length, map, Option, Some, None, Bool, true, false, refl, sym, ap, ◌∙◌, subst, arith}
-use Rattle.std.specs.Prelude.{slice_get, ℤ}
-use Rattle.std.specs.Fmt.{signed_decimal}
-use Rattle.kc_text.specs.Unicode.{utf8_of}
+use Rattle.std.proofs.Common.{◌≡◌, ℕ, suc, ◌+◌, ◌≤◌, List, [], ◌∷◌, ◌++◌, map, refl, sym, ap, ◌∙◌, subst, arith}
 use Rattle.kc_core.specs.declared.tree.TypeTree.{TypeTree}
 use Rattle.kc_core.specs.declared.tree.TypeTree.TheVariants as type_is
-use Rattle.kc_core.specs.declared.tree.Native.TheVariants as native_kind
 use Rattle.kc_core.specs.declared.tree.Span.{Span}
 use Rattle.kc_core.specs.declared.tree.Core.{Core}
-use Rattle.kc_core.specs.Values.{Value, Int, Text, UnitValue, text_of}
-use Rattle.kc_core.specs.Meaning.{State, Completion, Gives, then_do, enter, checked, in_order, joined, operands, on_text, native}
+use Rattle.kc_core.specs.Values.{Value, Int, Text, UnitValue}
+use Rattle.kc_core.specs.Meaning.{State, Completion, Gives, then_do, enter, checked, in_order}
 use Rattle.class_file.specs.declared.value.Value.{Value as Slot}
 use Rattle.class_file.specs.declared.value.Value.TheVariants as slot
-use Rattle.class_file.specs.declared.value.NativeId.TheVariants as native_is
+use Rattle.stack_code.specs.declared.constants.Helper.TheVariants as helper
 use Rattle.class_file.specs.declared.class.Set.{Set}
-use Rattle.class_file.specs.Machine.{Object, TextObject, Next, on_from}
-use Rattle.stack_code.specs.Code.{Operation, PushText, Call, bytes_of, bytes, Emitted, Several, nothing, followed, further_texts, texts, values, in_turn, whole, to_text, discards, code_of}
-use Rattle.stack_code.proofs.Runs.{Grows, grows_none, grows_on, Represents, represents_on, Typed, Held, held_on, Spot, Quiet, live, HasAt, has_front, has_back, Sized, factor, Reaches, Run, Rep, run_on, run_own, bind, own, ends_at, wider, Ready, Follows, Inside, with_check, entered}
-use Rattle.stack_code.proofs.Steps.{push_text, discard, call_of_int, call_concat, call_write}
-use Rattle.stack_code.proofs.Lists.{bytes_append, get_new, grows_more}
+use Rattle.class_file.specs.Natives.{Object}
+use Rattle.class_file.specs.Machine.{on_from}
+use Rattle.stack_code.specs.Code.{Operation, Call, bytes, Emitted, Several, nothing, followed, further_texts, texts, values, in_turn, whole, to_text, discards, code_of}
+use Rattle.stack_code.proofs.Runs.{grows_none, Represents, Typed, Held, Spot, Quiet, live, HasAt, has_front, has_back, Sized, factor, Reaches, Run, Rep, run_on, run_own, bind, own, ends_at, wider, Ready, Follows, Inside, with_check, entered}
+use Rattle.stack_code.proofs.Steps.{discard}
+use Rattle.stack_code.proofs.Lists.{bytes_append}
 use Rattle.stack_code.proofs.Single.{behind}
 
 abbrev pub AllSized : Several → Type 0
@@ -33,7 +30,7 @@ followed_sized e between more a b =
 module _ (A : Type 0) (f : A → Emitted) (sized : (a : A) → Sized (f a)) where
   pub further_sized : (es : List A) → AllSized (further_texts (map f es))
   further_sized [] = refl
-  further_sized (e ∷ es) = followed_sized (f e) (to_text (f e).ty ++ Call native_is.TextsConcat ∷ []) (further_texts (map f es)) (sized e) (further_sized es)
+  further_sized (e ∷ es) = followed_sized (f e) (to_text (f e).ty ++ Call helper.TextsConcat ∷ []) (further_texts (map f es)) (sized e) (further_sized es)
 
   pub texts_sized : (es : List A) → AllSized (texts (map f es))
   texts_sized [] = refl

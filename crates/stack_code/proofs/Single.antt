@@ -1,33 +1,56 @@
 -- Nodes without a list of children: their code does what they do.
-use Rattle.std.proofs.Common.{◌≡◌, ℕ, zero, suc, ◌+◌, ◌*◌, ◌<◌, ◌≤◌, ◌⊎◌, inl, inr, List, [], ◌∷◌, ◌++◌, length, Option, Some, None, Bool, true, false, refl, sym, ap, ◌∙◌, subst, arith, ⊎_elim}
-use Rattle.std.specs.Prelude.{slice_get, slice_set, ℤ, pos, nat_lt, if◌then◌else◌}
-use Rattle.std.proofs.lemmas.Bool.{ltb-false}
+use Rattle.std.proofs.Common.{◌≡◌, ℕ, suc, ◌+◌, List, [], ◌∷◌, ◌++◌, length, Option, Some, None, refl, ap, ◌∙◌, subst, arith}
+use Rattle.std.specs.Prelude.{slice_get, slice_set, ℤ, codes}
+use Rattle.std.specs.List.{find}
 use Rattle.kc_core.specs.declared.tree.TypeTree.{TypeTree}
 use Rattle.kc_core.specs.declared.tree.TypeTree.TheVariants as type_is
-use Rattle.kc_core.specs.declared.tree.BinaryOp.{BinaryOp}
-use Rattle.kc_core.specs.declared.tree.BinaryOp.TheVariants.{Plus, Minus, Times, Div, Rem}
 use Rattle.kc_core.specs.declared.tree.Span.{Span}
-use Rattle.kc_core.specs.Values.{Value, Int, Text, UnitValue, has_type, arithmetic, negated}
-use Rattle.kc_core.specs.Meaning.{State, Completion, Gives, Throws, Stops, Breaks, then_do, enter, checked, read, declared, number_or_zero_divisor, division_by_zero, on_int}
+use Rattle.kc_core.specs.Values.{Value, Int, Text, UnitValue}
+use Rattle.kc_core.specs.Meaning.{State, Gives, then_do, enter, checked, read, declared, division_by_zero}
 use Rattle.class_file.specs.declared.value.Value.{Value as Slot}
 use Rattle.class_file.specs.declared.value.Value.TheVariants as slot
 use Rattle.class_file.specs.declared.value.Kind.TheVariants as kinds
 use Rattle.class_file.specs.declared.value.BuiltIn.TheVariants as built_in
-use Rattle.class_file.specs.declared.row.Operator.{Operator}
+use Rattle.class_file.specs.declared.class.Handler.{Handler}
 use Rattle.class_file.specs.declared.class.Set.{Set}
-use Rattle.class_file.specs.Machine.{Active, Object, TextObject, Next, Going, Over, Threw, on_from, after, or_zero_divisor, int_answer, Goes, thrown, is_unhandled, method_at, Stuck, Effect}
-use Rattle.stack_code.specs.Code.{Operation, PushInt, PushText, Load, Store, Compute, Negate, bytes_of, bytes, Emitted, leaf, loads, stores, then_code, two_code, operator_of, local_bytes}
-use Rattle.stack_code.proofs.Runs.{Grows, grows_none, Represents, Typed, Holds, Held, held_on, Spot, Unhandled, Quiet, live, At, HasAt, has_front, has_back, Sized, factor, Reaches, Hangs, Run, Rep, run_on, run_own, bind, own, ends_at, Ready, Follows, Inside, Checked, with_check, entered}
-use Rattle.stack_code.proofs.Steps.{frame, state, push_int, push_text, load, store, negate, compute}
-use Rattle.stack_code.proofs.Lists.{bytes_append, get_same, get_other, set_length, within, get_new, grows_more, held_write, held_unset}
+use Rattle.class_file.specs.Classes.{built_ins}
+use Rattle.class_file.specs.Natives.{Object, TextObject, Instance, name_of, text_in}
+use Rattle.class_file.specs.Machine.{Active, State as MachineState, Over, Threw, thrown, unwound, goes_on, catches, with_exception, class_pool}
+use Rattle.stack_code.specs.Code.{Operation, PushInt, PushText, bytes_of, bytes, Emitted, leaf, loads, local_bytes}
+use Rattle.stack_code.proofs.Runs.{grows_none, Represents, Typed, Held, held_on, Spot, Unhandled, live, HasAt, has_back, Sized, factor, Run, own, Ready, Follows, Inside, with_check, entered}
+use Rattle.stack_code.proofs.Steps.{push_int, push_text, load}
+use Rattle.stack_code.proofs.Lists.{within, get_new, grows_more, held_unset}
 
 pub behind : (set : Set) (o : Spot) (x : Emitted) → Sized x → (at : ℕ) (b : List Operation) → HasAt set o at (x.code ++ b) → HasAt set o (at + x.size) b
 behind set o x sized at b h = subst (λ n. HasAt set o (at + n) b) sized (has_back set o at x.code b h)
 
 -- a throw that no frame handles ends the run
-pub unhandled : (set : Set) (fs : List Active) (out : List ℕ) → Unhandled set fs → thrown set built_in.ArithmeticException fs out ≡ Over (Threw division_by_zero.class division_by_zero.message) out
-unhandled set [] out q = refl
-unhandled set (f ∷ fs) out q = ap (λ b. if b then thrown set built_in.ArithmeticException fs out else Over Stuck out) q.0 ∙ unhandled set fs out q.1
+unwinds : (set : Set) (s : MachineState) (r class : ℕ) (fields : List Slot) (fs : List Active) → Unhandled set fs → unwound set s r class fields fs ≡ unwound set s r class fields []
+unwinds set s r class fields [] q = refl
+unwinds set s r class fields (f ∷ fs) q =
+    ap (λ (hs : List Handler). elim (find (catches set (class_pool set f.class) class f.at) hs) [ Some h ↦ goes_on s f fs h.at (slot.Ref r ∷ []) | None ↦ unwound set s r class fields fs ]) q.0
+    ∙ unwinds set s r class fields fs q.1
+
+-- what stands behind a list is there in the longer one
+get_behind : {A : Type 0} (xs more : List A) (a : A) → slice_get (xs ++ a ∷ more) (length xs) ≡ Some a
+get_behind [] more a = refl
+get_behind (x ∷ xs) more a = get_behind xs more a
+
+class_is : (set : Set) → name_of set 15 ≡ division_by_zero.class
+unfolding built_ins
+class_is set = refl
+
+pub unhandled : (set : Set) (s : MachineState) (fs : List Active) → Unhandled set fs → thrown set built_in.ArithmeticException s fs ≡ Over (Threw division_by_zero.class division_by_zero.message) s.out
+unhandled set s fs q =
+    unwinds set (with_exception built_in.ArithmeticException s) (length s.heap + 1) 15 (slot.Ref (length s.heap) ∷ []) fs q
+    ∙ ap (λ name. Over (Threw name (text_in (slice_get (s.heap ++ TextObject text ∷ exception ∷ []) (length s.heap)))) s.out) (class_is set)
+    ∙ ap (λ o. Over (Threw division_by_zero.class (text_in o)) s.out) (get_behind s.heap (exception ∷ []) (TextObject text))
+  where
+    text : List ℕ
+    text = codes "/ by zero"
+
+    exception : Object
+    exception = Instance 15 (slot.Ref (length s.heap) ∷ [])
 
 module _ (set : Set) (S : ℕ) where
   pub int_follows : (d : ℕ) (ty : TypeTree) (span : Span) (z : ℤ) → Follows set S (suc d) (leaf (PushInt z ∷ []) ty) (λ s. enter s.units s (λ s1. then_do (Gives (Int z) s1) (checked span ty)))

@@ -1,6 +1,6 @@
 -- What the machine does at an instruction for each operation.
-use Rattle.std.proofs.Common.{◌≡◌, ℕ, zero, suc, ◌+◌, ◌<◌, ◌≤◌, ◌⊎◌, inl, inr, List, [], ◌∷◌, ◌++◌, length, Option, Some, None, Bool, true, false, refl, sym, ap, ◌∙◌, subst, arith, ⊎_elim}
-use Rattle.std.specs.Prelude.{slice_get, slice_set, ℤ, nat_lt, if◌then◌else◌}
+use Rattle.std.proofs.Common.{◌≡◌, ℕ, ◌+◌, List, [], ◌∷◌, ◌++◌, length, Option, Some, None, true, false, refl, ap, ◌∙◌, ⊎_elim}
+use Rattle.std.specs.Prelude.{slice_get, slice_set, ℤ, nat_lt, if◌then◌else◌, ◌||◌, ◌-◌}
 use Rattle.std.specs.Fmt.{signed_decimal}
 use Rattle.std.specs.Int.{w32, int_wrapping_neg}
 use Rattle.kc_text.specs.Unicode.{utf8_of}
@@ -8,36 +8,26 @@ use Rattle.kc_core.specs.Meaning.{State as Known}
 use Rattle.class_file.specs.declared.value.Value.{Value as Slot}
 use Rattle.class_file.specs.declared.value.Value.TheVariants as slot
 use Rattle.class_file.specs.declared.value.Kind.{Kind as SlotKind}
-use Rattle.class_file.specs.declared.value.Kind.TheVariants as kinds
-use Rattle.class_file.specs.declared.value.NativeId.{NativeId}
-use Rattle.class_file.specs.declared.value.NativeId.TheVariants as native_is
+use Rattle.stack_code.specs.declared.constants.Helper.{Helper}
+use Rattle.stack_code.specs.declared.constants.Helper.TheVariants as helper
 use Rattle.class_file.specs.declared.row.Row.{Row}
 use Rattle.class_file.specs.declared.row.Row.TheVariants as row
 use Rattle.class_file.specs.declared.row.Operator.{Operator}
 use Rattle.class_file.specs.declared.class.Set.{Set}
-use Rattle.class_file.specs.declared.class.Method.{Method}
-use Rattle.class_file.specs.declared.instr.Instr.{Instr}
-use Rattle.class_file.specs.Rows.{length_of, row_of}
+use Rattle.class_file.specs.Rows.{row_of}
 use Rattle.class_file.specs.Pools.{Constant, Number, Literal}
-use Rattle.class_file.specs.Machine.{Active, Object, TextObject, State, Next, Going, Over, Ended, step, on_from, fetch, resolve, constant, class_pool, effect, after, executed, loaded, invoked, native_step, native_effect, has_kind, on_kind, on_local, is_narrow, int_answer, or_zero_divisor, thrown, handed, made, text_of, on_text, places, stored, method_at, Effect, Goes, Fails, NativeEffect, MakesText, Writes, NativeFails}
-use Rattle.stack_code.specs.Code.{Operation, PushInt, PushText, Load, Store, Compute, Negate, Discard, Call, Leave, bytes_of, StandsFor}
-use Rattle.stack_code.proofs.Runs.{Grows, Spot, Quiet, live, At}
+use Rattle.class_file.specs.Natives.{Object, TextObject, NativeEffect, Makes, Writes, native_effect, text_in, given_text, as_text, both_texts, text_argument}
+use Rattle.class_file.specs.Lots.{CallsNative, native_params, native_called}
+use Rattle.class_file.specs.Machine.{Active, State, Next, Static, callee, with, with_started, is_marked, starting, unstarted, Popped, popped, static_call, step, on_from, resolve, constant, effect, after, executed, loaded, invoked, run, native_step, has_kind, is_narrow, int_answer, or_zero_divisor, handed, places, stored, Effect, Goes, Fails}
+use Rattle.stack_code.specs.Code.{native_of, Operation, PushInt, PushText, Load, Store, Compute, Negate, Discard, Call, Leave, bytes_of}
+use Rattle.stack_code.proofs.Runs.{Spot, live, At}
 
 -- the running frame
 abbrev pub frame : Spot → ℕ → List Slot → List Slot → Active
-frame o at ls st = record { class = o.class; method = o.method; at = at; locals = ls; stack = st }
+frame o at ls st = record { class = o.class; method = o.method; at = at; locals = ls; stack = st; starts = false }
 
 abbrev pub state : Spot → ℕ → List Slot → List Slot → List Object → Known → State
-state o at ls st h s = record { begun = true; frames = frame o at ls st ∷ o.rest; heap = h; input = s.input; out = s.out }
-
-text_found : (h : List Object) (r : ℕ) (t : List ℕ) (w : Option Object) → w ≡ Some (TextObject t) → (elim w as (λ _. Option (List ℕ)) [ Some (TextObject units) ↦ Some units | None ↦ None ]) ≡ Some t
-text_found h r t w e = ap (λ (w : Option Object). elim w as (λ _. Option (List ℕ)) [ Some (TextObject units) ↦ Some units | None ↦ None ]) e
-
-given : (w : Option (List ℕ)) (t : List ℕ) (rest : List Slot) (go : List ℕ → List Slot → NativeEffect) → w ≡ Some t → (elim w as (λ _. NativeEffect) [ Some units ↦ go units rest | None ↦ NativeFails ]) ≡ go t rest
-given w t rest go e = ap (λ (w : Option (List ℕ)). elim w as (λ _. NativeEffect) [ Some units ↦ go units rest | None ↦ NativeFails ]) e
-
-takes_text : (h : List Object) (r : ℕ) (t : List ℕ) (rest : List Slot) (go : List ℕ → List Slot → NativeEffect) → slice_get h r ≡ Some (TextObject t) → on_text h (slot.Ref r ∷ rest) go ≡ go t rest
-takes_text h r t rest go e = given (text_of h r) t rest go (text_found h r t (slice_get h r) e)
+state o at ls st h s = record { frames = frame o at ls st ∷ o.rest; heap = h; statics = o.statics; started = o.started; input = s.input; out = s.out }
 
 module _ (set : Set) (o : Spot) where
   -- a step is what the effect of the instruction's row makes of the state
@@ -97,25 +87,55 @@ module _ (set : Set) (o : Spot) where
       A : Effect → Next
       A w = after set (state o at ls (v ∷ st) h s) (frame o at ls (v ∷ st)) o.rest (at + bytes_of (Store k x)) w
 
-  by_call : (at : ℕ) (ls st : List Slot) (h : List Object) (s : Known) (m : NativeId) → At set o at (Call m) → on_from set 1 (live o at ls st h s) ≡ native_step set (state o at ls st h s) (frame o at ls st) o.rest (at + 3) (native_effect m h st)
+  by_call : (at : ℕ) (ls st : List Slot) (h : List Object) (s : Known) (m : Helper) → At set o at (Call m) → (p : Popped) → popped (native_params (native_of m)) st ≡ Some p → on_from set 1 (live o at ls st h s) ≡ native_step set (state o at ls st h s) (frame o at ls p.rest) o.rest (at + 3) (native_effect set (native_of m) h p.args)
   unfolding resolve
-  by_call at ls st h s m a =
+  by_call at ls st h s m a p e =
       by_row at ls st h s (Call m) a (row.InvokeStatic a.stands.0) a.stands.1
-      ∙ ap (invoked set (state o at ls st h s) (frame o at ls st) o.rest (at + 3)) a.stands.2
+      ∙ ap (λ n. invoked set now f o.rest (at + 3) Static (callee set Static n)) a.stands.2.named_is
+      ∙ ap (invoked set now f o.rest (at + 3) Static) c.is
+      ∙ ⊎_elim (λ q. started 25 c.callee.found.class q refl) (λ q. started 26 c.callee.found.class q refl) c.built_in
+      ∙ ap (λ params. with now (popped params st) enters) c.params
+      ∙ ap (λ w. with now w enters) e
+      ∙ ap (run set now (frame o at ls p.rest) o.rest (at + 3) p.args) c.native
+    where
+      now : State
+      now = state o at ls st h s
 
-  pub call_of_int : (at : ℕ) (ls st : List Slot) (h : List Object) (s : Known) (z : ℤ) → At set o at (Call native_is.TextsOfInt) → on_from set 1 (live o at ls (slot.Int z ∷ st) h s) ≡ live o (at + 3) ls (slot.Ref (length h) ∷ st) (h ++ TextObject (signed_decimal z) ∷ []) s
-  call_of_int at ls st h s z a = by_call at ls (slot.Int z ∷ st) h s native_is.TextsOfInt a
+      f : Active
+      f = frame o at ls st
 
-  pub call_concat : (at : ℕ) (ls st : List Slot) (h : List Object) (s : Known) (r q : ℕ) (t u : List ℕ) → At set o at (Call native_is.TextsConcat) → slice_get h r ≡ Some (TextObject t) → slice_get h q ≡ Some (TextObject u) → on_from set 1 (live o at ls (slot.Ref q ∷ slot.Ref r ∷ st) h s) ≡ live o (at + 3) ls (slot.Ref (length h) ∷ st) (h ++ TextObject (t ++ u) ∷ []) s
+      c : CallsNative (callee set Static (Some (record { is_interface = false; member = a.stands.2.member }))) (native_of m)
+      c = native_called set (native_of m) a.stands.2.member a.stands.2.is
+
+      enters : Popped → Next
+      enters w = run set now (frame o at ls w.rest) o.rest (at + 3) w.args c.callee.found.method.body
+
+      -- a built-in class has nothing to initialise
+      started : (n class : ℕ) → class ≡ n → nat_lt n 37 ≡ true → with_started set now (f ∷ o.rest) class (λ t. static_call set t f o.rest (at + 3) c.callee) ≡ static_call set now f o.rest (at + 3) c.callee
+      started n class q lt =
+          ap (λ k. with_started set now (f ∷ o.rest) k (λ t. static_call set t f o.rest (at + 3) c.callee)) q
+          ∙ ap (λ b. if b || is_marked (slice_get o.started (n - 37)) then static_call set now f o.rest (at + 3) c.callee else starting set now (f ∷ o.rest) (unstarted set now n) (λ t. static_call set t f o.rest (at + 3) c.callee)) lt
+
+  -- a native over its arguments, with what is left of the stack below
+  abbrev makes : ℕ → List Slot → List Slot → List Slot → List Object → Known → NativeEffect → Next
+  makes at ls st rest h s e = native_step set (state o at ls st h s) (frame o at ls rest) o.rest (at + 3) e
+
+  pub call_of_int : (at : ℕ) (ls st : List Slot) (h : List Object) (s : Known) (z : ℤ) → At set o at (Call helper.TextsOfInt) → on_from set 1 (live o at ls (slot.Int z ∷ st) h s) ≡ live o (at + 3) ls (slot.Ref (length h) ∷ st) (h ++ TextObject (signed_decimal z) ∷ []) s
+  unfolding native_effect
+  call_of_int at ls st h s z a = by_call at ls (slot.Int z ∷ st) h s helper.TextsOfInt a (record { args = slot.Int z ∷ []; rest = st }) refl
+
+  pub call_concat : (at : ℕ) (ls st : List Slot) (h : List Object) (s : Known) (r q : ℕ) (t u : List ℕ) → At set o at (Call helper.TextsConcat) → slice_get h r ≡ Some (TextObject t) → slice_get h q ≡ Some (TextObject u) → on_from set 1 (live o at ls (slot.Ref q ∷ slot.Ref r ∷ st) h s) ≡ live o (at + 3) ls (slot.Ref (length h) ∷ st) (h ++ TextObject (t ++ u) ∷ []) s
+  unfolding native_effect
   call_concat at ls st h s r q t u a e f =
-      by_call at ls (slot.Ref q ∷ slot.Ref r ∷ st) h s native_is.TextsConcat a
-      ∙ ap (native_step set (state o at ls (slot.Ref q ∷ slot.Ref r ∷ st) h s) (frame o at ls (slot.Ref q ∷ slot.Ref r ∷ st)) o.rest (at + 3))
-      (takes_text h q u (slot.Ref r ∷ st) (λ second below. on_text h below (λ first rest. MakesText (first ++ second) rest)) f ∙ takes_text h r t st (λ first rest. MakesText (first ++ u) rest) e)
+      by_call at ls (slot.Ref q ∷ slot.Ref r ∷ st) h s helper.TextsConcat a (record { args = slot.Ref r ∷ slot.Ref q ∷ []; rest = st }) refl
+      ∙ ap (λ (w : Option Object). makes at ls (slot.Ref q ∷ slot.Ref r ∷ st) st h s (both_texts (as_text (text_in w)) (text_argument h (slot.Ref q)) (λ first second. Makes (TextObject (first ++ second))))) e
+      ∙ ap (λ (w : Option Object). makes at ls (slot.Ref q ∷ slot.Ref r ∷ st) st h s (both_texts (as_text (Some t)) (as_text (text_in w)) (λ first second. Makes (TextObject (first ++ second))))) f
 
-  pub call_write : (at : ℕ) (ls st : List Slot) (h : List Object) (s : Known) (r : ℕ) (t : List ℕ) → At set o at (Call native_is.ConsoleWrite) → slice_get h r ≡ Some (TextObject t) → on_from set 1 (live o at ls (slot.Ref r ∷ st) h s) ≡ live o (at + 3) ls st h (record s { out = s.out ++ utf8_of t })
+  pub call_write : (at : ℕ) (ls st : List Slot) (h : List Object) (s : Known) (r : ℕ) (t : List ℕ) → At set o at (Call helper.ConsoleWrite) → slice_get h r ≡ Some (TextObject t) → on_from set 1 (live o at ls (slot.Ref r ∷ st) h s) ≡ live o (at + 3) ls st h (record s { out = s.out ++ utf8_of t })
+  unfolding native_effect
   call_write at ls st h s r t a e =
-      by_call at ls (slot.Ref r ∷ st) h s native_is.ConsoleWrite a
-      ∙ ap (native_step set (state o at ls (slot.Ref r ∷ st) h s) (frame o at ls (slot.Ref r ∷ st)) o.rest (at + 3)) (takes_text h r t st (λ units rest. Writes (utf8_of units) rest) e)
+      by_call at ls (slot.Ref r ∷ st) h s helper.ConsoleWrite a (record { args = slot.Ref r ∷ []; rest = st }) refl
+      ∙ ap (λ (w : Option Object). makes at ls (slot.Ref r ∷ st) st h s (given_text (text_in w) (λ units. Writes (utf8_of units)))) e
 
   -- a return without value
   pub leave : (at : ℕ) (ls st : List Slot) (h : List Object) (s : Known) → At set o at Leave → on_from set 1 (live o at ls st h s) ≡ handed set (state o at ls st h s) [] o.rest

@@ -1,6 +1,6 @@
 -- Texts that are put together, and calls of natives: their code does what they do.
-use Rattle.std.proofs.Common.{◌≡◌, ℕ, zero, suc, ◌+◌, ◌*◌, ◌<◌, ◌≤◌, List, [], ◌∷◌, ◌++◌, length, map, Option, Some, None, Bool, true, false, refl, sym, ap, ◌∙◌, subst, arith}
-use Rattle.std.specs.Prelude.{slice_get, ℤ}
+use Rattle.std.proofs.Common.{◌≡◌, ℕ, suc, ◌+◌, List, [], ◌∷◌, ◌++◌, length, map, Some, refl, ap, ◌∙◌, subst, arith}
+use Rattle.std.specs.Prelude.{slice_get}
 use Rattle.std.specs.Fmt.{signed_decimal}
 use Rattle.kc_text.specs.Unicode.{utf8_of}
 use Rattle.kc_core.specs.declared.tree.TypeTree.{TypeTree}
@@ -9,16 +9,17 @@ use Rattle.kc_core.specs.declared.tree.Native.TheVariants as native_kind
 use Rattle.kc_core.specs.declared.tree.Span.{Span}
 use Rattle.kc_core.specs.declared.tree.Core.{Core}
 use Rattle.kc_core.specs.Values.{Value, Int, Text, UnitValue, text_of}
-use Rattle.kc_core.specs.Meaning.{State, Completion, Gives, then_do, enter, checked, joined, operands, on_text, native}
+use Rattle.kc_core.specs.Meaning.{State, Completion, then_do, enter, checked, joined, operands, on_text, native}
 use Rattle.class_file.specs.declared.value.Value.{Value as Slot}
 use Rattle.class_file.specs.declared.value.Value.TheVariants as slot
-use Rattle.class_file.specs.declared.value.NativeId.TheVariants as native_is
+use Rattle.stack_code.specs.declared.constants.Helper.TheVariants as helper
 use Rattle.class_file.specs.declared.class.Set.{Set}
-use Rattle.class_file.specs.Machine.{Object, TextObject, Next, on_from}
-use Rattle.stack_code.specs.Code.{Operation, PushText, Call, bytes_of, bytes, Emitted, Several, nothing, followed, further_texts, texts, values, whole, to_text, code_of}
-use Rattle.stack_code.proofs.Runs.{Grows, grows_none, grows_on, Represents, represents_on, Typed, Held, held_on, Spot, Quiet, live, HasAt, has_front, has_back, Sized, factor, Reaches, Run, Rep, run_on, run_own, bind, own, ends_at, wider, Ready, Follows, Inside, with_check, entered}
+use Rattle.class_file.specs.Natives.{Object, TextObject}
+use Rattle.class_file.specs.Machine.{on_from}
+use Rattle.stack_code.specs.Code.{Operation, Call, bytes, Several, further_texts, texts, values, whole, to_text, code_of}
+use Rattle.stack_code.proofs.Runs.{Grows, grows_none, grows_on, Represents, represents_on, Typed, Held, held_on, Spot, live, HasAt, has_front, has_back, Sized, factor, Reaches, Run, run_on, run_own, bind, own, ends_at, wider, Follows, Inside, with_check, entered}
 use Rattle.stack_code.proofs.Steps.{push_text, call_of_int, call_concat, call_write}
-use Rattle.stack_code.proofs.Lists.{bytes_append, get_new, grows_more}
+use Rattle.stack_code.proofs.Lists.{get_new, grows_more}
 use Rattle.stack_code.proofs.Several.{AllSized, Readies, first_ready, between_at, more_ready, Does}
 
 -- these values stand on the stack, over another one
@@ -32,7 +33,7 @@ module _ (set : Set) (S : ℕ) (d : ℕ) (ev : Core → State → Completion) (s
   Further x f = (text : List ℕ) (r : ℕ) (s : State) (o : Spot) (at : ℕ) (ls st : List Slot) (h : List Object) → slice_get h r ≡ Some (TextObject text) → Readies set S d ev sized ih x s o at ls h → Run set S o Represents (live o at ls (slot.Ref r ∷ st) h s) h s.units 2 x.nodes ls (at + x.size) st (f text s)
 
   -- a value becomes a text and comes behind the text below it
-  appended : (o : Spot) (at end : ℕ) (ls st : List Slot) (h : List Object) (s : State) (B : ℕ) (span : Span) (ty : TypeTree) (v : Value) (xs : List Slot) (r : ℕ) (text : List ℕ) (go : List ℕ → State → Completion) → HasAt set o at (to_text ty ++ Call native_is.TextsConcat ∷ []) → Typed ty h v xs → Held h ls s.locals → slice_get h r ≡ Some (TextObject text) → ((u : List ℕ) (h1 : List Object) (q : ℕ) → Held h1 ls s.locals → slice_get h1 q ≡ Some (TextObject (text ++ u)) → Run set S o Represents (live o (at + bytes (to_text ty ++ Call native_is.TextsConcat ∷ [])) ls (slot.Ref q ∷ st) h1 s) h1 s.units 2 B ls end st (go (text ++ u) s)) → Run set S o Represents (live o at ls (xs ++ (slot.Ref r ∷ st)) h s) h s.units 4 B ls end st (on_text span (text_of v) (λ u. go (text ++ u)) s)
+  appended : (o : Spot) (at end : ℕ) (ls st : List Slot) (h : List Object) (s : State) (B : ℕ) (span : Span) (ty : TypeTree) (v : Value) (xs : List Slot) (r : ℕ) (text : List ℕ) (go : List ℕ → State → Completion) → HasAt set o at (to_text ty ++ Call helper.TextsConcat ∷ []) → Typed ty h v xs → Held h ls s.locals → slice_get h r ≡ Some (TextObject text) → ((u : List ℕ) (h1 : List Object) (q : ℕ) → Held h1 ls s.locals → slice_get h1 q ≡ Some (TextObject (text ++ u)) → Run set S o Represents (live o (at + bytes (to_text ty ++ Call helper.TextsConcat ∷ [])) ls (slot.Ref q ∷ st) h1 s) h1 s.units 2 B ls end st (go (text ++ u) s)) → Run set S o Represents (live o at ls (xs ++ (slot.Ref r ∷ st)) h s) h s.units 4 B ls end st (on_text span (text_of v) (λ u. go (text ++ u)) s)
   appended o at end ls st h s B span type_is.Int (Int z) xs r text go code is held there run =
       run_own set S 2 o Represents end st (live o at ls (xs ++ (slot.Ref r ∷ st)) h s) (live o (at + 6) ls (slot.Ref (length h1) ∷ st) h2 s) h h2 4 2 B ls ls s (omega arith)
       (ap (λ ys. on_from set 2 (live o at ls (ys ++ (slot.Ref r ∷ st)) h s)) is.1 ∙ ap (on_from set 1) (call_of_int set o at ls (slot.Ref r ∷ st) h s z code.0)
@@ -83,7 +84,7 @@ module _ (set : Set) (S : ℕ) (d : ℕ) (ev : Core → State → Completion) (s
       more = further_texts (map code_of es)
 
       between : List Operation
-      between = to_text (code_of e).ty ++ Call native_is.TextsConcat ∷ []
+      between = to_text (code_of e).ty ++ Call helper.TextsConcat ∷ []
 
       end : ℕ
       end = at + ((code_of e).size + bytes between + more.size)
@@ -189,7 +190,7 @@ module _ (set : Set) (S : ℕ) (d : ℕ) (ev : Core → State → Completion) (s
           subst (λ n. Run set S o Represents (live o n ls2 st2 h2 s2) h2 s2.units factor 0 ls2 end st0 (go (v ∷ vs) s2)) (let i : at + ((code_of e).size + 0 + more.size) ≡ next + more.size = omega arith in i)
           (then' (v ∷ vs) s2 ls2 st2 h2 (grows_on h g.h' h2 g.grows grown) (g.xs, represents_on g.h' h2 v g.xs grown g.is.1, stacked) held2))))
 
-  write_tail : (span : Span) (vs : List Value) (s : State) (o : Spot) (at : ℕ) (ls st st1 : List Slot) (h : List Object) → HasAt set o at (Call native_is.ConsoleWrite ∷ []) → Stacked h vs st st1 → Held h ls s.locals → Run set S o Represents (live o at ls st1 h s) h s.units factor 0 ls (at + 3) st (native span native_kind.ConsoleWrite vs s)
+  write_tail : (span : Span) (vs : List Value) (s : State) (o : Spot) (at : ℕ) (ls st st1 : List Slot) (h : List Object) → HasAt set o at (Call helper.ConsoleWrite ∷ []) → Stacked h vs st st1 → Held h ls s.locals → Run set S o Represents (live o at ls st1 h s) h s.units factor 0 ls (at + 3) st (native span native_kind.ConsoleWrite vs s)
   write_tail span (Text t ∷ []) s o at ls st st1 h code stacked held =
       own set S 1 (live o at ls st1 h s) h factor 0 ls ls h [] (λ h' ys. Represents h' UnitValue ys) s' (λ ls' h' ys. live o (at + 3) ls' (ys ++ st) h' s') (omega arith)
       (ap (λ ys. on_from set 1 (live o at ls ys h s)) (stacked.2 ∙ ap (λ zs. zs ++ st) stacked.1.1) ∙ call_write set o at ls st h s stacked.1.0 t code.0 stacked.1.2)
@@ -202,14 +203,14 @@ module _ (set : Set) (S : ℕ) (d : ℕ) (ev : Core → State → Completion) (s
   write_tail span (Int z ∷ vs) s o at ls st st1 h code stacked held = tt
   write_tail span (UnitValue ∷ vs) s o at ls st st1 h code stacked held = tt
 
-  pub write_follows : (ty : TypeTree) (span : Span) (es : List Core) → AllSized (values (map code_of es)) → Follows set S (suc d) (whole (values (map code_of es)) (Call native_is.ConsoleWrite ∷ []) ty) (λ s. enter s.units s (λ s1. then_do (operands ev es (native span native_kind.ConsoleWrite) s1) (checked span ty)))
+  pub write_follows : (ty : TypeTree) (span : Span) (es : List Core) → AllSized (values (map code_of es)) → Follows set S (suc d) (whole (values (map code_of es)) (Call helper.ConsoleWrite ∷ []) ty) (λ s. enter s.units s (λ s1. then_do (operands ev es (native span native_kind.ConsoleWrite) s1) (checked span ty)))
   write_follows ty span es za = entered set S d x.nodes (whole x tail ty) _ (omega arith) (with_check set S d x.nodes (whole x tail ty) span (operands ev es (native span native_kind.ConsoleWrite)) inside)
     where
       x : Several
       x = values (map code_of es)
 
       tail : List Operation
-      tail = Call native_is.ConsoleWrite ∷ []
+      tail = Call helper.ConsoleWrite ∷ []
 
       inside : Inside set S d x.nodes (whole x tail ty) (operands ev es (native span native_kind.ConsoleWrite))
       inside s o at ls st h ready =

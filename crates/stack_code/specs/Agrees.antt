@@ -1,14 +1,17 @@
 -- Compiled code does what its program does: in the bytes that it prints, in how it ends, at every bound.
-use Rattle.std.specs.Prelude.{◌≡◌, ℕ, ◌≤◌, List, [], Option, Some, length, slice_get, codes}
+use Rattle.std.specs.Prelude.{◌≡◌, ℕ, ◌≤◌, List, [], ◌∷◌, ◌++◌, Some, None, length, slice_get, position, codes}
 use Rattle.kc_core.specs.declared.tree.Function.{Function}
 use Rattle.kc_core.specs.declared.tree.Program.{Program}
 use Rattle.kc_core.specs.declared.tree.Span.{Span}
 use Rattle.kc_core.specs.Runs as runs
 use Rattle.kc_core.specs.Meaning as source
+use Rattle.class_file.specs.declared.class.ClassFile.{ClassFile}
 use Rattle.class_file.specs.declared.class.Set.{Set}
 use Rattle.class_file.specs.declared.class.Method.{Method}
-use Rattle.class_file.specs.Pools.{Slots}
-use Rattle.class_file.specs.Machine.{Ending, Ended, Threw, Stuck, Next, Going, Over, machine, class_pool, class_named, method_named, methods_of, method_at}
+use Rattle.class_file.specs.Pools.{Slots, is_text}
+use Rattle.class_file.specs.Classes.{built_ins}
+use Rattle.class_file.specs.Lots.{IsFirstLot}
+use Rattle.class_file.specs.Machine.{Ending, Ended, Threw, Stuck, Next, Going, Over, machine}
 use Rattle.stack_code.specs.Code.{Spells, body_code}
 
 -- how the machine is to end where the source does
@@ -51,17 +54,26 @@ pub record IsCodeOf (pool : Slots) (m : Method) (f : Function) : Type 0 where
   pub room : length f.locals ≤ m.max_locals
   pub unhandled : m.handlers ≡ []
 
--- the set's main method is the code of the program's function `main`
+-- no built-in class has this name
+abbrev pub IsOwnName : List ℕ → Type 0
+IsOwnName name = position (λ c. is_text c.name name) built_ins ≡ None
+
+-- The set has one class, right below Object, which goes by the name of the main class and of no built-in one. Its one method is the
+-- public static method `main`, without parameters and result, and is the code of the program's function.
 pub record IsCompiled (set : Set) (program : Program) (main : ℕ) : Type 0 where
   pub function : Function
-  pub class : ℕ
-  pub place : ℕ
+  pub class : ClassFile
   pub method : Method
   pub function_is : slice_get program.functions main ≡ Some function
-  pub class_is : class_named set.main set.classes ≡ Some class
-  pub place_is : method_named (codes "main") (codes "()V") (methods_of (slice_get set.classes class)) ≡ Some place
-  pub method_is : method_at set class place ≡ Some method
-  pub code : IsCodeOf (class_pool set class) method function
+  pub classes : set.classes ≡ class ∷ []
+  pub name : class.this_name ≡ set.main
+  pub own : IsOwnName set.main
+  pub super : class.super_name ≡ codes "java/lang/Object"
+  pub methods : class.methods ≡ method ∷ []
+  pub method_name : method.name ≡ codes "main"
+  pub descriptor : method.descriptor ≡ codes "()V"
+  pub flags : method.flags ≡ 9
+  pub code : IsCodeOf class.pool method function
 
 -- over this input the program's meaning is broken at no bound
 abbrev pub NeverBrokenAt : Program → ℕ → List ℕ → Type 0
@@ -75,3 +87,11 @@ NeverStuckAt set input = (n : ℕ) (out : List ℕ) → machine set input n ≡ 
 -- the emitter's factor and by the one that is promised, and never gets the machine stuck
 abbrev pub CompiledAgrees : Type 0
 CompiledAgrees = (set : Set) (program : Program) (main : ℕ) → IsCompiled set program main → (input : List ℕ) → NeverBrokenAt program main input → AgreesAt emitter_factor set program main input × AgreesAt 1000000 set program main input × NeverStuckAt set input
+
+-- the law of compiled sets: the machine is built for them
+abbrev pub CompiledIsFirstLot : Type 0
+CompiledIsFirstLot = (set : Set) (program : Program) (main : ℕ) → IsCompiled set program main → IsFirstLot set
+
+-- no built-in class has the name of a source file's class, which ends with `Kt`
+abbrev pub FilesHaveOwnNames : Type 0
+FilesHaveOwnNames = (name : List ℕ) → IsOwnName (name ++ codes "Kt")

@@ -1,6 +1,6 @@
 -- The code of a node: what each instruction of it stands for, with its length in bytes. Which index of the pool an
 -- instruction names isn't said.
-use Rattle.std.specs.Prelude.{◌≡◌, ℕ, ◌+◌, Bool, ◌&&◌, List, [], ◌∷◌, ◌++◌, Option, Some, None, ℤ, pos, negsuc, int_le, nat_lt, if◌then◌else◌, ◌⊎◌}
+use Rattle.std.specs.Prelude.{◌≡◌, ℕ, ◌+◌, ◌&&◌, List, [], ◌∷◌, ◌++◌, Some, None, ℤ, pos, negsuc, int_le, nat_lt, if◌then◌else◌, ◌⊎◌}
 use Rattle.kc_core.specs.declared.tree.TypeTree.{TypeTree}
 use Rattle.kc_core.specs.declared.tree.TypeTree.TheVariants as type_is
 use Rattle.kc_core.specs.declared.tree.BinaryOp.{BinaryOp}
@@ -14,13 +14,15 @@ use Rattle.class_file.specs.declared.value.Kind.{Kind as SlotKind}
 use Rattle.class_file.specs.declared.value.Kind.TheVariants as kinds
 use Rattle.class_file.specs.declared.value.NativeId.{NativeId}
 use Rattle.class_file.specs.declared.value.NativeId.TheVariants as native_is
+use Rattle.stack_code.specs.declared.constants.Helper.{Helper}
+use Rattle.stack_code.specs.declared.constants.Helper.TheVariants as helper
 use Rattle.class_file.specs.declared.row.Row.TheVariants as row
 use Rattle.class_file.specs.declared.row.Operator.{Operator}
 use Rattle.class_file.specs.declared.row.Operator.TheVariants as op
 use Rattle.class_file.specs.declared.instr.Instr.{Instr}
 use Rattle.class_file.specs.Rows.{length_of, row_of}
-use Rattle.class_file.specs.Pools.{Slots, entry_at, method_in, constant_in, Number, Literal}
-use Rattle.class_file.specs.Machine.{callee}
+use Rattle.class_file.specs.Pools.{Slots, entry_at, named_in, constant_in, Number, Literal}
+use Rattle.class_file.specs.Lots.{NamesNative}
 
 -- what an instruction of the code does, by the things that its indexes stand for
 pub data Operation : Type 0 where
@@ -31,7 +33,7 @@ pub data Operation : Type 0 where
   Compute : (operator : Operator) → Operation
   Negate : Operation
   Discard : Operation
-  Call : (method : NativeId) → Operation
+  Call : (callee : Helper) → Operation
   Leave : Operation
 
 -- the shortest of iconst, bipush, sipush and ldc_w
@@ -58,6 +60,12 @@ abbrev pub bytes : List Operation → ℕ
 bytes [] = 0
 bytes (o ∷ os) = bytes_of o + bytes os
 
+-- the native that a helper is
+abbrev pub native_of : Helper → NativeId
+native_of helper.ConsoleWrite = native_is.ConsoleWrite
+native_of helper.TextsConcat = native_is.TextsConcat
+native_of helper.TextsOfInt = native_is.TextsOfInt
+
 -- over this pool an instruction at this place stands for the operation
 abbrev pub StandsFor : Slots → ℕ → Instr → Operation → Type 0
 StandsFor pool at i (PushInt z) = (row_of at i ≡ row.PushInt z) ⊎ ((k : ℕ) × (row_of at i ≡ row.PushConstant k) × (constant_in pool (entry_at pool k) ≡ Some (Number z)))
@@ -67,7 +75,7 @@ StandsFor pool at i (Store k x) = row_of at i ≡ row.Store k x
 StandsFor pool at i (Compute o) = row_of at i ≡ row.IntBinary o
 StandsFor pool at i Negate = row_of at i ≡ row.IntNeg
 StandsFor pool at i Discard = row_of at i ≡ row.Pop
-StandsFor pool at i (Call m) = (k : ℕ) × (row_of at i ≡ row.InvokeStatic k) × (callee (method_in pool (entry_at pool k)) ≡ Some m)
+StandsFor pool at i (Call m) = (k : ℕ) × (row_of at i ≡ row.InvokeStatic k) × NamesNative (named_in pool (entry_at pool k)) (native_of m)
 StandsFor pool at i Leave = row_of at i ≡ row.Return
 
 -- over this pool these instructions, from a place on, stand for the operations, one for one
@@ -105,7 +113,7 @@ stores type_is.Unit x = []
 
 -- a value of this type on the stack becomes its text
 abbrev pub to_text : TypeTree → List Operation
-to_text type_is.Int = Call native_is.TextsOfInt ∷ []
+to_text type_is.Int = Call helper.TextsOfInt ∷ []
 to_text type_is.String = []
 to_text type_is.Unit = []
 
@@ -142,7 +150,7 @@ followed e between more = record { size = e.size + bytes between + more.size; no
 -- the parts of a text behind the first, each put behind what stands there
 abbrev pub further_texts : List Emitted → Several
 further_texts [] = nothing
-further_texts (e ∷ es) = followed e (to_text e.ty ++ Call native_is.TextsConcat ∷ []) (further_texts es)
+further_texts (e ∷ es) = followed e (to_text e.ty ++ Call helper.TextsConcat ∷ []) (further_texts es)
 
 abbrev pub texts : List Emitted → Several
 texts [] = record { size = 3; nodes = 0; code = PushText [] ∷ [] }
@@ -172,7 +180,7 @@ kind_code (Kind-F.Declare x (Some e)) ty = then_code e (stores e.ty x) ty
 kind_code (Kind-F.NumBinary o a b) ty = two_code a b (Compute (operator_of o) ∷ []) ty
 kind_code (Kind-F.NumUnary unary.Minus a) ty = then_code a (Negate ∷ []) ty
 kind_code (Kind-F.Concat parts) ty = whole (texts parts) [] ty
-kind_code (Kind-F.CallNative native.ConsoleWrite args) ty = whole (values args) (Call native_is.ConsoleWrite ∷ []) ty
+kind_code (Kind-F.CallNative native.ConsoleWrite args) ty = whole (values args) (Call helper.ConsoleWrite ∷ []) ty
 kind_code (Kind-F.Block parts) ty = whole (in_turn parts) [] ty
 
 abbrev pub core_code : Core-F (TypeTree → Emitted) Emitted → Emitted

@@ -1,5 +1,5 @@
 -- What emitting code does to the code and to the pool.
-use Rattle.std.specs.Prelude.{◌≡◌, ℕ, Bool, true, false, List, [], ◌∷◌, ◌++◌, Option, Some}
+use Rattle.std.specs.Prelude.{◌≡◌, ℕ, Bool, true, false, List, [], ◌∷◌, ◌++◌, Some}
 use Rattle.class_file.specs.declared.instr.Instr.{Instr}
 use Rattle.class_file.specs.declared.row.Row.{Row}
 use Rattle.class_file.specs.Rows.{length_of, row_of}
@@ -7,7 +7,7 @@ use Rattle.class_file.specs.declared.pool.Entry.TheVariants.{NameAndType}
 use Rattle.class_file.specs.Pools.{Slots, Extends, entry_at, text_in}
 use Rattle.stack_code.specs.Code.{Operation, bytes_of, StandsFor, Spells, Emitted, texts, further_texts, discards, to_text, Call}
 use Rattle.kc_core.specs.declared.tree.TypeTree.{TypeTree}
-use Rattle.class_file.specs.declared.value.NativeId.TheVariants as native_is
+use Rattle.stack_code.specs.declared.constants.Helper.TheVariants as helper
 
 -- The code goes on with instructions that stand for the operations, over a pool that keeps its entries.
 pub record Emits (old new : List Instr) (before after : Slots) (ops : List Operation) : Type 0 where
@@ -53,4 +53,4 @@ after_part false ty = discards ty
 -- what comes behind a part of a text
 abbrev pub after_text : Bool → TypeTree → List Operation
 after_text true ty = to_text ty
-after_text false ty = to_text ty ++ Call native_is.TextsConcat ∷ []
+after_text false ty = to_text ty ++ Call helper.TextsConcat ∷ []

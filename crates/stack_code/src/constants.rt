@@ -1,18 +1,29 @@
 //! Entries of the constant pool that code names.
 
-ghost use Rattle.std.specs.Prelude.{◌≡◌, ◌++◌, ◌<◌, All, Some, IfOk, OnOk};
-ghost use Rattle.class_file.specs.Pools.{entry_at, Extends, text_in, name_in, method_in, constant_in, Number, Literal};
-ghost use Rattle.class_file.specs.Machine.{callee};
+ghost use Rattle.std.specs.Prelude.{◌≡◌, ◌++◌, ◌<◌, All, Some, false, IfOk, OnOk};
+ghost use Rattle.class_file.specs.Pools.{entry_at, Extends, text_in, name_in, named_in, constant_in, Number, Literal};
+ghost use Rattle.class_file.specs.Lots.{NamesNative};
+ghost use Rattle.stack_code.specs.Code.{native_of};
 ghost use Rattle.stack_code.specs.Emission.{NamesTypes};
 
 use class_file::pool::{Entry, Pool};
-use class_file::value::NativeId;
 use kc_text::{Fail, Memory, Text};
 use std::alloc::Global;
 
 /// The code doesn't fit into a class file: its constants, or the numbers of its locals.
 #[derive(Clone, Copy, Debug, PartialEq, Eq)]
 pub struct TooLarge;
+
+/// The natives that code calls.
+#[derive(Clone, Copy)]
+pub enum Helper {
+    /// Writes the text's UTF-8 to the standard output.
+    ConsoleWrite,
+    /// The second text behind the first.
+    TextsConcat,
+    /// The number in decimal.
+    TextsOfInt,
+}
 
 // The index of an entry, which goes to the pool if it isn't there.
 fn add(pool: &mut Pool, entry: Entry) -> Result<u16, Fail<TooLarge>>
@@ -79,7 +90,7 @@ fn method(
     name: &[u8],
     descriptor: &[u8],
 ) -> Result<u16, Fail<TooLarge>>
-    ensures at { IfOk result (λ i. method_in pool.new (entry_at pool.new i) ≡ Some (record { owner = owner.now; name = name.now; descriptor = descriptor.now })) }
+    ensures at { IfOk result (λ i. named_in pool.new (entry_at pool.new i) ≡ Some (record { is_interface = false; member = record { owner = owner.now; name = name.now; descriptor = descriptor.now } })) }
     ensures kept { Extends pool.old pool.new }
 {
     let owner = class(alloc, pool, owner)?;
@@ -89,26 +100,26 @@ fn method(
 }
 
 /// The index of a native, as a method of its class.
-pub fn native(alloc: Global, pool: &mut Pool, id: NativeId) -> Result<u16, Fail<TooLarge>>
-    ensures at { IfOk result (λ i. callee (method_in pool.new (entry_at pool.new i)) ≡ Some id) }
+pub fn native(alloc: Global, pool: &mut Pool, helper: Helper) -> Result<u16, Fail<TooLarge>>
+    ensures at { IfOk result (λ i. NamesNative (named_in pool.new (entry_at pool.new i)) (native_of helper)) }
     ensures kept { Extends pool.old pool.new }
 {
-    match id {
-        NativeId::TextsOfInt => method(
+    match helper {
+        Helper::TextsOfInt => method(
             alloc,
             pool,
             b"kprof/rt/Texts",
             b"ofInt",
             b"(I)Ljava/lang/String;",
         ),
-        NativeId::TextsConcat => method(
+        Helper::TextsConcat => method(
             alloc,
             pool,
             b"kprof/rt/Texts",
             b"concat",
             b"(Ljava/lang/String;Ljava/lang/String;)Ljava/lang/String;",
         ),
-        NativeId::ConsoleWrite => method(
+        Helper::ConsoleWrite => method(
             alloc,
             pool,
             b"kprof/rt/Console",

@@ -3,13 +3,12 @@
 ghost use Rattle.std.specs.Prelude.{◌≡◌, ◌++◌, ◌∷◌, [], map, OnOk};
 ghost use Rattle.stack_code.specs.Code.{code_of, Compute, Negate, Call, operator_of, then_code, two_code, whole, texts, values, in_turn, stores};
 ghost use Rattle.stack_code.specs.Emission.{Emits};
-ghost use Rattle.class_file.specs.declared.value.NativeId.TheVariants as native_is;
+ghost use Rattle.stack_code.specs.declared.constants.Helper.TheVariants as helper;
 
-use crate::constants::TooLarge;
+use crate::constants::{Helper, TooLarge};
 use crate::operations::{between, call, compute, join, load, negate, push_int, push_text, store};
 use class_file::instr::Instr;
 use class_file::pool::Pool;
-use class_file::value::NativeId;
 use kc_core::tree::{Core, Kind, Native, UnaryOp};
 use kc_text::{Fail, Text};
 use std::alloc::Global;
@@ -106,10 +105,10 @@ fn emit_native(
     code: &mut Vec<Instr>,
     arguments: &[Core],
 ) -> Result<(), Fail<TooLarge>>
-    ensures { OnOk result (Emits code.old.items code.new.items pool.old pool.new ((values (map code_of arguments.now)).code ++ (Call native_is.ConsoleWrite ∷ []))) }
+    ensures { OnOk result (Emits code.old.items code.new.items pool.old pool.new ((values (map code_of arguments.now)).code ++ (Call helper.ConsoleWrite ∷ []))) }
 {
     emit_values(alloc, pool, code, arguments)?;
-    call(alloc, pool, code, NativeId::ConsoleWrite)
+    call(alloc, pool, code, Helper::ConsoleWrite)
 }
 
 /// Puts the code of a node behind the code that is there.

@@ -4,7 +4,7 @@ ghost use Rattle.std.specs.Prelude.{◌≡◌, ◌<◌, ◌≤◌, ◌^◌, leng
 ghost use Rattle.class_file.specs.Pools.{Extends};
 ghost use Rattle.stack_code.specs.Code.{body_code};
 ghost use Rattle.stack_code.specs.Emission.{Emits};
-ghost use Rattle.stack_code.specs.Agrees.{IsCodeOf, CompiledAgrees};
+ghost use Rattle.stack_code.specs.Agrees.{IsCodeOf, CompiledAgrees, CompiledIsFirstLot, FilesHaveOwnNames};
 
 use crate::constants::{TooLarge, ascii};
 use crate::emit::emit;
@@ -38,7 +38,7 @@ fn emit_body(
     Ok(())
 }
 
-/// The static method of a function without parameters whose result is `Unit`.
+/// The public static method of a function without parameters whose result is `Unit`.
 ///
 /// The pool gets the entries that the code names. It is `TooLarge` only where the code has more than 65,535 instructions, the
 /// function more than 65,535 locals, or the pool no room.
@@ -51,6 +51,7 @@ pub fn emit_function(
     ensures code { IfOk result (λ m. IsCodeOf pool.new m function.now) }
     ensures name { IfOk result (λ m. m.name ≡ function.now.name) }
     ensures descriptor { IfOk result (λ m. m.descriptor ≡ codes "()V") }
+    ensures flags { IfOk result (λ m. m.flags ≡ 9) }
     ensures short { IfOk result (λ m. length m.code ≤ 65535) }
 {
     let mut code = Vec::new(alloc);
@@ -116,4 +117,14 @@ fn operands(node: &Core) -> usize {
 /// Compiled code agrees with its program.
 pub fn compiled_agrees()
     ensures { CompiledAgrees }
+{}
+
+/// The machine is built for compiled sets.
+pub fn compiled_is_first_lot()
+    ensures { CompiledIsFirstLot }
+{}
+
+/// No built-in class has the name of a source file's class.
+pub fn files_have_own_names()
+    ensures { FilesHaveOwnNames }
 {}

@@ -5,11 +5,11 @@ ghost use Rattle.class_file.specs.Pools.{Slots};
 ghost use Rattle.stack_code.specs.Code.{PushInt, PushText, Compute, Negate, Call, Leave, loads, stores, to_text, discards, operator_of};
 ghost use Rattle.stack_code.specs.Emission.{Emits, after_part, after_text};
 
-use crate::constants::{TooLarge, literal, native, number};
+use crate::constants::{Helper, TooLarge, literal, native, number};
 use crate::instructions;
 use class_file::instr::Instr;
 use class_file::pool::Pool;
-use class_file::value::{Kind, NativeId};
+use class_file::value::Kind;
 use kc_core::tree::{BinaryOp, TypeTree};
 use kc_text::{Fail, Memory, Text};
 use std::alloc::Global;
@@ -142,11 +142,11 @@ pub fn call(
     alloc: Global,
     pool: &mut Pool,
     code: &mut Vec<Instr>,
-    id: NativeId,
+    helper: Helper,
 ) -> Result<(), Fail<TooLarge>>
-    ensures { OnOk result (Emits code.old.items code.new.items pool.old pool.new (Call id ∷ [])) }
+    ensures { OnOk result (Emits code.old.items code.new.items pool.old pool.new (Call helper ∷ [])) }
 {
-    let index = native(alloc, pool, id)?;
+    let index = native(alloc, pool, helper)?;
     put(code, Instr::Invokestatic(index))?;
     Ok(())
 }
@@ -162,7 +162,7 @@ pub fn to_text(
     ensures { OnOk result (Emits code.old.items code.new.items pool.old pool.new (to_text ty)) }
 {
     match ty {
-        TypeTree::Int => call(alloc, pool, code, NativeId::TextsOfInt),
+        TypeTree::Int => call(alloc, pool, code, Helper::TextsOfInt),
         TypeTree::String | TypeTree::Unit => Ok(()),
     }
 }
@@ -190,6 +190,6 @@ pub fn join(
     if is_first {
         Ok(())
     } else {
-        call(alloc, pool, code, NativeId::TextsConcat)
+        call(alloc, pool, code, Helper::TextsConcat)
     }
 }

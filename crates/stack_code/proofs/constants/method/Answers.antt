@@ -1,4 +1,3 @@
-use Rattle.std.proofs.Common.{◌≡◌}
 use Rattle.stack_code.proofs.Emitting.{named_method}
 use Rattle.stack_code.proofs.constants.method.Goals as goal
 

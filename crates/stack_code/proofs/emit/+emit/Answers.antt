@@ -1,9 +1,9 @@
-use Rattle.std.proofs.Common.{◌≡◌, ◌++◌, ◌∷◌, [], map, length, ap, sym, ◌∙◌, subst, arith, ℕ, ◌+◌, drop, nat_eq, List, Bool, false, OnOk}
+use Rattle.std.proofs.Common.{◌++◌, ◌∷◌, [], map, length, ap, sym, ◌∙◌, subst, arith, ◌+◌, drop, nat_eq, List, false, OnOk}
 use Rattle.std.proofs.lemmas.Bool.{eqb-true, eqb-false, ne_eqb}
 use Rattle.kc_core.specs.declared.tree.Core.{Core}
 use Rattle.stack_code.specs.Code.{Operation, code_of, Compute, operator_of, values, in_turn, texts}
 use Rattle.stack_code.specs.Emission.{Emits, Partly, after_part, after_text, texts_left}
-use Rattle.stack_code.proofs.Emitting.{emits_then, partly_none, partly_on, partly_all, values_next, turn_next, text_next, nothing_left}
+use Rattle.stack_code.proofs.Emitting.{emits_then, partly_none, partly_on, values_next, turn_next, text_next}
 use Rattle.stack_code.proofs.Nodes.{binary_code, concat_code}
 use Rattle.stack_code.proofs.emit.+emit.Goals as goal
 

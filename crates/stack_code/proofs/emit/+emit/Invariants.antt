@@ -1,4 +1,4 @@
-use Rattle.std.proofs.Common.{◌≡◌, map, drop, nat_eq}
+use Rattle.std.proofs.Common.{map, drop, nat_eq}
 use Rattle.stack_code.specs.Code.{code_of, values, in_turn, texts}
 use Rattle.stack_code.specs.Emission.{Partly, texts_left}
 use Rattle.stack_code.proofs.emit.+emit.Given as goal

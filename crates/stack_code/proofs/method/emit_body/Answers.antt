@@ -1,4 +1,4 @@
-use Rattle.std.proofs.Common.{◌≡◌, ◌++◌, ◌∷◌, []}
+use Rattle.std.proofs.Common.{◌++◌, ◌∷◌, []}
 use Rattle.stack_code.specs.Code.{code_of, discards, Leave}
 use Rattle.stack_code.proofs.Emitting.{emits_then}
 use Rattle.stack_code.proofs.method.emit_body.Goals as goal

@@ -1,0 +1,13 @@
+mod Supertypes
+mod Sound
+mod Tables
+mod Nodes
+mod Growth
+mod Putting
+mod CoreCut
+mod CoreLaws
+mod CoreBoth
+mod CoreHeads
+mod CoreTheorems
+mod Listed
+mod CoreExampleValid

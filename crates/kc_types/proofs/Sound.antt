@@ -1,0 +1,169 @@
+-- What the recursion accepts is in the relation.
+use Rattle.std.proofs.Common.{◌≡◌, ℕ, zero, suc, Bool, true, false, nat_eq, List, [], ◌∷◌, Option, Some, None, ◌&&◌, length, map, refl, sym, subst, ⊎_elim, eqb-true}
+use Rattle.std.proofs.lemmas.Bool.{and_parts, or_cases}
+use Rattle.kc_types.specs.Types.{Ty, Class, Param, Nothing, Nullable, Arg, Exact, Out, In, Star, Args, none, more, Variance, Invariant, Covariant, Contravariant, HeadParam, Heads, star_bound, up_args, class_given}
+use Rattle.kc_types.specs.Supertypes.{IsIn, here, later, Supertype, is_class, instance}
+use Rattle.kc_types.specs.Subtype.{read, Sub, All, In_arg, contains_with, all_with, fits_with, any_fits, options, choices, each_first, class_with, is_empty, is_param, is_anything, null_with, layer, below}
+use Rattle.kc_types.specs.Subtype.Sub.{same, through, nothing, any, null, nulls, object, super, arguments, bound}
+use Rattle.kc_types.specs.Subtype.All.{end, next}
+use Rattle.kc_types.proofs.Supertypes.{in_append, instance_is}
+use Rattle.kc_types.specs.Subtype.In_arg.{star, out_exact, out_out, out_in, out_star, in_exact, in_in, exact}
+
+no : {A : Type 0} → false ≡ true → A
+no e = absurd (cc)
+
+in_map : (a : Arg) (y : Args) (xss : List Args) → IsIn Args y (map (λ xs. more a xs) xss) → (xs : Args) × (y ≡ more a xs) × IsIn Args xs xss
+in_map a y [] i = elim i [ ]
+in_map a y (xs ∷ xss) here = (xs, refl, here)
+in_map a y (xs ∷ xss) (later i) = let r = in_map a y xss i in (r.0, r.1, later r.2)
+
+-- a list of arguments made of one of each
+record Made (first : List Arg) (xss : List Args) (y : Args) : Type 0 where
+  a : Arg
+  xs : Args
+  is : y ≡ more a xs
+  first_in : IsIn Arg a first
+  rest_in : IsIn Args xs xss
+
+made : (first : List Arg) (xss : List Args) (y : Args) → IsIn Args y (each_first first xss) → Made first xss y
+made [] xss y i = elim i [ ]
+made (a ∷ first) xss y i = ⊎_elim
+    (λ l. let r = in_map a y xss l in record { a = a; xs = r.0; is = r.1; first_in = here; rest_in = r.2 })
+    (λ l. let m = made first xss y l in record { a = m.a; xs = m.xs; is = m.is; first_in = later m.first_in; rest_in = m.rest_in })
+    (in_append y (map (λ xs. more a xs) xss) (each_first first xss) i)
+
+-- by way of stars
+record By_stars (h : Heads) (all ps : List HeadParam) (xs ys : Args) : Type 0 where
+  mid : Args
+  to_mid : All h all ps xs mid
+  from_mid : All h all ps mid ys
+
+in_same : (h : Heads) (top : Ty) (a : Arg) → In_arg h top a a
+in_same h top (Exact t) = exact same same
+in_same h top (Out t) = out_out same
+in_same h top (In t) = in_in same
+in_same h top Star = star
+
+record One_by_star (h : Heads) (v : Variance) (top : Ty) (a b : Arg) : Type 0 where
+  one : Arg
+  to_one : In_arg h top (read v a) (read v one)
+  from_one : In_arg h top (read v one) (read v b)
+
+option_by_star : (h : Heads) (v : Variance) (top : Ty) (a b : Arg) → IsIn Arg b (options v top a) → One_by_star h v top a b
+option_by_star h Invariant top a b here = record { one = a; to_one = in_same h top a; from_one = in_same h top a }
+option_by_star h Invariant top a b (later here) = record { one = Star; to_one = star; from_one = out_star same }
+option_by_star h Invariant top a b (later (later i)) = elim i [ ]
+option_by_star h Covariant top a b here = record { one = a; to_one = in_same h top (read Covariant a); from_one = in_same h top (read Covariant a) }
+option_by_star h Covariant top a b (later here) = record { one = Star; to_one = star; from_one = out_star same }
+option_by_star h Covariant top a b (later (later i)) = elim i [ ]
+option_by_star h Contravariant top a b here = record { one = a; to_one = in_same h top (read Contravariant a); from_one = in_same h top (read Contravariant a) }
+option_by_star h Contravariant top a b (later i) = elim i [ ]
+
+choice_by_stars : (h : Heads) (all ps : List HeadParam) (xs ys : Args) → IsIn Args ys (choices all ps xs) → By_stars h all ps xs ys
+choice_by_stars h all [] none ys here = record { mid = none; to_mid = end; from_mid = end }
+choice_by_stars h all [] none ys (later i) = elim i [ ]
+choice_by_stars h all [] (more a xs) ys i = elim i [ ]
+choice_by_stars h all (p ∷ ps) none ys i = elim i [ ]
+choice_by_stars h all (p ∷ ps) (more a xs) ys i =
+    let m = made (options p.variance (star_bound (length all) all p.bound) a) (choices all ps xs) ys i in
+    let b = choice_by_stars h all ps xs m.xs m.rest_in in
+    let o = option_by_star h p.variance (star_bound (length all) all p.bound) a m.a m.first_in in
+    record { mid = more o.one b.mid; to_mid = next o.to_one b.to_mid; from_mid = subst (λ zs. All h all (p ∷ ps) (more o.one b.mid) zs) (sym m.is) (next o.from_one b.from_mid) }
+
+choice_sound : (h : Heads) (c : ℕ) (xs ys : Args) → IsIn Args ys (choices (h.params c) (h.params c) xs) → Sub h (Class c xs) (Class c ys)
+choice_sound h c xs ys i = let b = choice_by_stars h (h.params c) (h.params c) xs ys i in through (arguments b.to_mid) (arguments b.from_mid)
+
+module _ (h : Heads) (go : Ty → Ty → Bool) (is : (a b : Ty) → go a b ≡ true → Sub h a b) where
+  contains_sound : (top : Ty) (a b : Arg) → contains_with go top a b ≡ true → In_arg h top a b
+  contains_sound top a Star e = star
+  contains_sound top (Exact a) (Out b) e = out_exact (is a b e)
+  contains_sound top (Out a) (Out b) e = out_out (is a b e)
+  contains_sound top (In a) (Out b) e = out_in (is top b e)
+  contains_sound top Star (Out b) e = out_star (is top b e)
+  contains_sound top (Exact a) (In b) e = in_exact (is b a e)
+  contains_sound top (In a) (In b) e = in_in (is b a e)
+  contains_sound top (Out a) (In b) e = no e
+  contains_sound top Star (In b) e = no e
+  contains_sound top (Exact a) (Exact b) e = let p = and_parts (go a b) (go b a) e in exact (is a b p.0) (is b a p.1)
+  contains_sound top (Out a) (Exact b) e = no e
+  contains_sound top (In a) (Exact b) e = no e
+  contains_sound top Star (Exact b) e = no e
+
+  all_sound : (all ps : List HeadParam) (xs ys : Args) → all_with go all ps xs ys ≡ true → All h all ps xs ys
+  all_sound all [] none none e = end
+  all_sound all (p ∷ ps) (more a xs) (more b ys) e =
+      let q = and_parts (contains_with go (star_bound (length all) all p.bound) (read p.variance a) (read p.variance b)) (all_with go all ps xs ys) e in
+      next (contains_sound (star_bound (length all) all p.bound) (read p.variance a) (read p.variance b) q.0) (all_sound all ps xs ys q.1)
+  all_sound all [] (more a xs) ys e = no e
+  all_sound all [] none (more b ys) e = no e
+  all_sound all (p ∷ ps) none ys e = no e
+  all_sound all (p ∷ ps) (more a xs) none e = no e
+
+  fits_sound : (c : ℕ) (xs : Args) (d : ℕ) (ys : Args) (t : Ty) → Supertype h c t → is_class d t ≡ true → fits_with go h (class_given h c xs) d ys (Some t) ≡ true → Sub h (Class c xs) (Class d ys)
+  fits_sound c xs d ys (Class e zs) i q f = let g = eqb-true e d q in
+      through (super i) (subst (λ k. Sub h (Class e (up_args h (class_given h c xs) (h.is_function e) (h.params e) zs)) (Class k ys)) g
+      (arguments (all_sound (h.params e) (h.params e) (up_args h (class_given h c xs) (h.is_function e) (h.params e) zs) ys (subst (λ k. all_with go (h.params k) (h.params k) (up_args h (class_given h c xs) (h.is_function e) (h.params e) zs) ys ≡ true) (sym g) f))))
+  fits_sound c xs d ys (Param x) i q f = no q
+  fits_sound c xs d ys Nothing i q f = no q
+  fits_sound c xs d ys (Nullable u) i q f = no q
+
+  at_sound : (c : ℕ) (xs : Args) (d : ℕ) (ys : Args) (o : Option Ty) → instance h c d ≡ o → fits_with go h (class_given h c xs) d ys o ≡ true → Sub h (Class c xs) (Class d ys)
+  at_sound c xs d ys None e f = no f
+  at_sound c xs d ys (Some t) e f = let i = instance_is h c d t e in fits_sound c xs d ys t i.0 i.1 f
+
+  any_sound : (c : ℕ) (xs : Args) (xss : List Args) (d : ℕ) (ys : Args) → ((zs : Args) → IsIn Args zs xss → Sub h (Class c xs) (Class c zs)) →
+      any_fits go h c xss d ys (instance h c d) ≡ true → Sub h (Class c xs) (Class d ys)
+  any_sound c xs [] d ys w e = no e
+  any_sound c xs (zs ∷ xss) d ys w e = ⊎_elim
+      (λ q. through (w zs here) (at_sound c zs d ys (instance h c d) refl q))
+      (λ q. any_sound c xs xss d ys (λ us i. w us (later i)) q)
+      (or_cases (fits_with go h (class_given h c zs) d ys (instance h c d)) (any_fits go h c xss d ys (instance h c d)) e)
+
+  object_sound : (c : ℕ) (xs : Args) (d : ℕ) (ys : Args) → nat_eq d h.any ≡ true → is_empty ys ≡ true → Sub h (Class c xs) (Class d ys)
+  object_sound c xs d none q e = subst (λ k. Sub h (Class c xs) (Class k none)) (sym (eqb-true d h.any q)) object
+  object_sound c xs d (more a ys) q e = no e
+
+  class_sound : (c : ℕ) (xs : Args) (b : Ty) → class_with go h c xs b ≡ true → Sub h (Class c xs) b
+  class_sound c xs (Class d ys) e = ⊎_elim
+      (λ q. let p = and_parts (nat_eq d h.any) (is_empty ys) q in object_sound c xs d ys p.0 p.1)
+      (λ q. any_sound c xs (choices (h.params c) (h.params c) xs) d ys (choice_sound h c xs) q)
+      (or_cases (nat_eq d h.any && is_empty ys) (any_fits go h c (choices (h.params c) (h.params c) xs) d ys (instance h c d)) e)
+  class_sound c xs (Param x) e = no e
+  class_sound c xs Nothing e = no e
+  class_sound c xs (Nullable b) e = through (is (Class c xs) b e) null
+
+  null_sound : (a b : Ty) → null_with go a b ≡ true → Sub h (Nullable a) b
+  null_sound a (Nullable b) e = nulls (is a (Nullable b) e)
+  null_sound a (Class c xs) e = no e
+  null_sound a (Param x) e = no e
+  null_sound a Nothing e = no e
+
+  param_sound : (x : ℕ) (b : Ty) → is_param x b ≡ true → Sub h (Param x) b
+  param_sound x (Param y) e = subst (λ k. Sub h (Param x) (Param k)) (eqb-true x y e) same
+  param_sound x (Nullable (Param y)) e = subst (λ k. Sub h (Param x) (Nullable (Param k))) (eqb-true x y e) null
+  param_sound x (Nullable (Class c xs)) e = no e
+  param_sound x (Nullable Nothing) e = no e
+  param_sound x (Nullable (Nullable t)) e = no e
+  param_sound x (Class c xs) e = no e
+  param_sound x Nothing e = no e
+
+  layer_sound : (a b : Ty) → layer go h a b ≡ true → Sub h a b
+  layer_sound Nothing b e = nothing
+  layer_sound (Nullable a) b e = null_sound a b e
+  layer_sound (Param x) b e = ⊎_elim (λ q. param_sound x b q) (λ q. through bound (is (h.bound_of x) b q)) (or_cases (is_param x b) (go (h.bound_of x) b) e)
+  layer_sound (Class c xs) b e = class_sound c xs b e
+
+anything_sound : (h : Heads) (a b : Ty) → is_anything h b ≡ true → Sub h a b
+anything_sound h a (Nullable (Class c none)) e = subst (λ k. Sub h a (Nullable (Class k none))) (sym (eqb-true c h.any e)) any
+anything_sound h a (Nullable (Class c (more x xs))) e = no e
+anything_sound h a (Nullable (Nullable t)) e = no e
+anything_sound h a (Nullable (Param x)) e = no e
+anything_sound h a (Nullable Nothing) e = no e
+anything_sound h a (Class c xs) e = no e
+anything_sound h a (Param x) e = no e
+anything_sound h a Nothing e = no e
+
+-- what is accepted with any fuel is in the relation
+pub below_sound : (n : ℕ) (h : Heads) (a b : Ty) → below n h a b ≡ true → Sub h a b
+below_sound zero h a b e = no e
+below_sound (suc n) h a b e = ⊎_elim (λ q. anything_sound h a b q) (λ q. layer_sound h (below n h) (below_sound n h) a b q) (or_cases (is_anything h b) (layer (below n h) h a b) e)

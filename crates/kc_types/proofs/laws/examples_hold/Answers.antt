@@ -1,0 +1,28 @@
+use Rattle.std.proofs.Common.{refl}
+use Rattle.kc_types.proofs.laws.examples_hold.Goals as goal
+
+pub returns : goal.returns
+returns c = record {
+  walks = refl;
+  at_iterable = refl;
+  star_keeps_bound = refl;
+  in_keeps_bound = refl;
+  beyond_bound = refl;
+  keeps_invariance = refl;
+  takes_wider = refl;
+  takes_narrower = refl;
+  of_functions = refl;
+  of_nullable = refl;
+  null_is_no_any = refl;
+  null_is_any_or_null = refl;
+  two_marks = refl;
+  against = refl;
+  upwards = refl;
+  downwards = refl;
+  function_upwards = refl;
+  view_inward = refl;
+  view_outward = refl;
+  view_of_nullable = refl;
+  view_beside = refl;
+  no_view_at_function = refl;
+}

@@ -1,0 +1,72 @@
+-- Small hierarchies, computed: what the rules give where a plainer reading of them would give something else.
+use Rattle.std.specs.Prelude.{◌≡◌, ℕ, zero, suc, true, false, nat_eq, List, [], ◌∷◌, Some, None, cond}
+use Rattle.kc_types.specs.Types.{Ty, Class, Param, Nothing, Nullable, Arg, Exact, Out, In, Star, none, more, Variance, Invariant, Covariant, Contravariant, HeadParam, Heads, up, down, class_given}
+use Rattle.kc_types.specs.Supertypes.{instance}
+use Rattle.kc_types.specs.Subtype.{below}
+use Rattle.kc_types.specs.View.{view}
+
+abbrev pub nth : {A : Type 0} → A → List A → ℕ → A
+nth d [] k = d
+nth d (x ∷ xs) zero = x
+nth d (x ∷ xs) (suc k) = nth d xs k
+
+abbrev pub plain : ℕ → Ty
+plain c = Class c none
+
+abbrev pub one : ℕ → Arg → Ty
+one c a = Class c (more a none)
+
+abbrev pub two : ℕ → Arg → Arg → Ty
+two c a b = Class c (more a (more b none))
+
+abbrev pub var : ℕ → Arg
+var x = Exact (Param x)
+
+abbrev pub any_bound : ℕ → Variance → HeadParam
+any_bound x v = record { var = x; variance = v; bound = Nullable (plain 0) }
+
+-- Any 0, Num 1 : Any, L<out S> 2, D<T : Num> : L<T> 3, Sink<in X> 4, Function1<in P, out R> 5,
+-- Iterable<out A> 6, Collection<out B> : Iterable<B> 7, MutableList<E> : Collection<E> 8, ArrayList<F> : MutableList<F> 9
+abbrev pub heads : Heads
+heads = record {
+  classes = 10;
+  params = nth [] ([] ∷ [] ∷ (any_bound 20 Covariant ∷ []) ∷ (record { var = 30; variance = Invariant; bound = plain 1 } ∷ []) ∷ (any_bound 40 Contravariant ∷ []) ∷
+      (any_bound 50 Contravariant ∷ any_bound 51 Covariant ∷ []) ∷ (any_bound 60 Covariant ∷ []) ∷ (any_bound 70 Covariant ∷ []) ∷ (any_bound 80 Invariant ∷ []) ∷ (any_bound 90 Invariant ∷ []) ∷ []);
+  supers = nth [] ([] ∷ (plain 0 ∷ []) ∷ [] ∷ (one 2 (var 30) ∷ []) ∷ [] ∷ [] ∷ [] ∷ (one 6 (var 70) ∷ []) ∷ (one 7 (var 80) ∷ []) ∷ (one 8 (var 90) ∷ []) ∷ []);
+  vars = 10;
+  bound_of = λ x. cond (nat_eq x 30) (plain 1) (Nullable (plain 0));
+  any = 0;
+  is_function = λ c. nat_eq c 5;
+}
+
+pub record ExamplesHold : Type 0 where
+  -- ArrayList<Num> is below Iterable<Num> and Iterable<Any>
+  pub walks : below 8 heads (one 9 (Exact (plain 1))) (one 6 (Exact (plain 0))) ≡ true
+  pub at_iterable : instance heads 9 6 ≡ Some (one 6 (var 90))
+  -- a star keeps its parameter's bound at a superclass, and so does an `in` projection
+  pub star_keeps_bound : below 8 heads (one 3 Star) (one 2 (Exact (plain 1))) ≡ true
+  pub in_keeps_bound : below 8 heads (one 3 (In Nothing)) (one 2 (Exact (plain 1))) ≡ true
+  -- an argument beyond its bound gives way to `out` of the bound
+  pub beyond_bound : below 8 heads (one 3 (Exact (plain 0))) (one 3 (Out (plain 1))) ≡ true
+  pub keeps_invariance : below 8 heads (one 3 (Exact (plain 1))) (one 3 (Exact (plain 0))) ≡ false
+  pub takes_wider : below 8 heads (one 4 (Exact (plain 0))) (one 4 (Exact (plain 1))) ≡ true
+  pub takes_narrower : below 8 heads (one 4 (Exact (plain 1))) (one 4 (Exact (plain 0))) ≡ false
+  pub of_functions : below 8 heads (two 5 (Exact (plain 0)) (Exact (plain 1))) (two 5 (Exact (plain 1)) (Exact (plain 0))) ≡ true
+  pub of_nullable : below 8 heads (Nullable (one 3 (Exact (plain 1)))) (Nullable (one 2 (Exact (plain 0)))) ≡ true
+  pub null_is_no_any : below 8 heads (Nullable (plain 1)) (plain 0) ≡ false
+  pub null_is_any_or_null : below 8 heads (Nullable (plain 1)) (Nullable (plain 0)) ≡ true
+  pub two_marks : below 8 heads (Nullable (Nullable (plain 1))) (Nullable (plain 1)) ≡ true
+  -- a projection against its parameter's variance is a star, also where a type is taken upwards: with `in Nothing?` in its place
+  -- null would reach a Sink<Num>
+  pub against : up heads (class_given heads 3 (more Star none)) (one 4 (Out (Nullable (Param 30)))) ≡ one 4 Star
+  pub upwards : up heads (class_given heads 3 (more (Out (plain 1)) none)) (one 2 (Exact (one 3 (var 30)))) ≡ one 2 (Out (one 3 (Out (plain 1))))
+  -- downwards only the class type whose invariant argument names the parameter becomes Nothing, not what stands round it
+  pub downwards : down heads (class_given heads 3 (more (Out (plain 1)) none)) (one 2 (Exact (one 3 (var 30)))) ≡ one 2 (Exact Nothing)
+  -- a function type stays one: its parameters are taken downwards
+  pub function_upwards : up heads (class_given heads 3 (more Star none)) (two 5 (var 30) (var 30)) ≡ two 5 (Exact Nothing) (Exact (plain 1))
+  -- what was a Collection<Any> is, as a MutableList, one of something below Any
+  pub view_inward : view heads (one 7 (Exact (plain 0))) 8 ≡ Some (one 8 (Out (plain 0)))
+  pub view_outward : view heads (one 9 (Exact (plain 1))) 7 ≡ Some (one 7 (Exact (plain 1)))
+  pub view_of_nullable : view heads (Nullable (one 8 (Exact (plain 1)))) 9 ≡ Some (one 9 (Exact (plain 1)))
+  pub view_beside : view heads (plain 1) 8 ≡ Some (one 8 Star)
+  pub no_view_at_function : view heads (plain 1) 5 ≡ None

@@ -1,0 +1,13 @@
+pub mod formers
+pub mod Trees
+pub mod Types
+pub mod Supertypes
+pub mod Subtype
+pub mod TypeOf
+pub mod View
+pub mod Erasure
+pub mod Laws
+pub mod Tables
+pub mod Examples
+pub mod Core
+pub mod CoreExample

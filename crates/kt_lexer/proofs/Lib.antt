@@ -1,0 +1,11 @@
+pub mod Fronts
+pub mod Runs
+pub mod Nesting
+pub mod Digits
+pub mod Quotes
+pub mod Elements
+pub mod Sizes
+pub mod Cuts
+pub mod Weaving
+pub mod Ascii
+pub mod Longest

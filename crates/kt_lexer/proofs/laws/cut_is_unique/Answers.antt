@@ -1,0 +1,5 @@
+use Rattle.kt_lexer.proofs.Cuts as law
+use Rattle.kt_lexer.proofs.laws.cut_is_unique.Goals as goal
+
+pub returns : goal.returns
+returns c = law.cut_is_unique

@@ -1,0 +1,11 @@
+pub mod Characters
+pub mod Words
+pub mod Operators
+pub mod Numbers
+pub mod Strings
+pub mod Comments
+pub mod Openings
+pub mod Pieces
+pub mod Places
+pub mod Cut
+pub mod Laws
