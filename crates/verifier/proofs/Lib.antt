@@ -1,0 +1,4 @@
+pub mod Places
+pub mod Law
+pub mod Loop
+pub mod Marks

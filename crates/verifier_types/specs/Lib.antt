@@ -1,0 +1,4 @@
+pub mod Seen
+pub mod Frames
+pub mod Names
+pub mod Calls

@@ -1,0 +1,25 @@
+//! What the verifier knows of a method's frame, and what each instruction of the first lot makes of it.
+#![tactic(auto)]
+
+mod assign;
+mod built_ins;
+mod calls;
+mod constants;
+mod descriptors;
+mod known;
+mod locals;
+mod names;
+mod rows;
+mod stack;
+mod types;
+mod use_types;
+
+pub use assign::{assignable, is_assignable, is_thrown_assignable};
+pub use calls::{described, name_at};
+pub use descriptors::Call;
+pub use known::Known;
+pub use locals::Locals;
+pub use names::reference_below;
+pub use rows::step;
+pub use stack::Stack;
+pub use types::VerificationType;
