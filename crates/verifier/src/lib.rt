@@ -4,7 +4,11 @@
 mod flow;
 mod frames;
 mod handlers;
+mod lot;
 mod scan;
+#[cfg(test)]
+mod tests;
 mod verified;
 
+pub use lot::is_first_lot;
 pub use verified::{Verified, verify};
