@@ -1,0 +1,15 @@
+pub mod Tests
+pub mod Found
+pub mod Loaded
+pub mod Chains
+pub mod Fits
+pub mod Rows
+pub mod Natives
+pub mod Calls
+pub mod Frames
+pub mod Throws
+pub mod Steps
+pub mod Sound
+pub mod Flat
+pub mod Listed
+pub mod Example

@@ -1,0 +1,81 @@
+-- The law that the machine is never stuck on code that verifies.
+use Rattle.std.specs.Prelude.{All, ◌≡◌, ◌≢◌, ◌<◌, ℕ, List, Some, Bool, true, false, codes, slice_get}
+use Rattle.class_file.specs.declared.row.Row.{Row}
+use Rattle.class_file.specs.declared.row.Row.TheVariants as row
+use Rattle.class_file.specs.declared.instr.Instr.{Instr}
+use Rattle.class_file.specs.declared.class.ClassFile.{ClassFile}
+use Rattle.class_file.specs.declared.class.Method.{Method}
+use Rattle.class_file.specs.declared.class.Set.{Set}
+use Rattle.class_file.specs.Rows.{row_of}
+use Rattle.class_file.specs.Pools.{is_text}
+use Rattle.class_file.specs.Classes.{Coded, FoundMethod, is_abstract_flag, superclass, class_count, object_name, is_interface_flag}
+use Rattle.class_file.specs.Members.{is_array_name}
+use Rattle.class_file.specs.Machine.{Over, Stuck, machine, fetch, main_method}
+use Rattle.class_file.specs.Verification.{Verifies, starts}
+use Rattle.class_file.specs.Lots.{in_first_lot}
+
+-- the main class, or one above it, has a static main()V with code
+pub record HasMain (set : Set) : Type 0 where
+  pub found : FoundMethod
+  pub is : main_method set ≡ Some found
+  pub class : ℕ
+  pub place : ℕ
+  pub coded : found.method.body ≡ Coded class place
+
+-- Each class stands higher than its superclass, and no higher than there are classes: no class is above itself.
+pub record Heights (set : Set) : Type 0 where
+  pub height : ℕ → ℕ
+  pub higher : (n above : ℕ) → superclass set n ≡ Some above → height above < height n
+  pub bounded : (n : ℕ) → height n < class_count set
+
+-- What loading has looked at. A method that is not abstract has an instruction at its start, and an initialiser is not abstract.
+-- No class has the name of an array, an interface is right below Object, and no class is above itself.
+pub record IsLoaded (set : Set) : Type 0 where
+  pub main : HasMain set
+  pub coded : (class place : ℕ) (c : ClassFile) (m : Method) → slice_get set.classes class ≡ Some c → slice_get c.methods place ≡ Some m → is_abstract_flag m.flags ≡ false → starts m 0 ≡ true
+  pub initialisers : (class place : ℕ) (c : ClassFile) (m : Method) → slice_get set.classes class ≡ Some c → slice_get c.methods place ≡ Some m → is_text m.name (codes "<clinit>") ≡ true → is_abstract_flag m.flags ≡ false
+  pub names : (class : ℕ) (c : ClassFile) → slice_get set.classes class ≡ Some c → is_array_name c.this_name ≡ false
+  pub interfaces : (class : ℕ) (c : ClassFile) → slice_get set.classes class ≡ Some c → is_interface_flag c.flags ≡ true → is_text c.super_name object_name ≡ true
+  pub heights : Heights set
+
+-- the rows that the law is of: those of the first lot, and a few more that work on the frame alone
+abbrev pub is_covered : Row → Bool
+is_covered row.Nop = true
+is_covered row.DupX1 = true
+is_covered row.Dup2 = true
+is_covered (row.Increment i n) = true
+is_covered r = in_first_lot r
+
+-- each instruction of the set does what one of these rows does
+abbrev pub IsCovered : Set → Type 0
+IsCovered set = (class method at : ℕ) (i : Instr) → fetch set class method at ≡ Some i → is_covered (row_of at i) ≡ true
+
+-- a set that verifies never gets the machine stuck, on any input, after any number of steps
+abbrev pub VerifiedIsNeverStuck : Type 0
+VerifiedIsNeverStuck = (set : Set) → IsLoaded set → IsCovered set → Verifies set → (input : List ℕ) (n : ℕ) (out : List ℕ) → machine set input n ≢ Over Stuck out
+
+-- each class of the set is right below Object
+abbrev pub IsFlat : Set → Type 0
+IsFlat set = (class : ℕ) (c : ClassFile) → slice_get set.classes class ≡ Some c → is_text c.super_name object_name ≡ true
+
+-- in such a set no class is above itself
+abbrev pub FlatSetsHaveHeights : Type 0
+FlatSetsHaveHeights = (set : Set) → IsFlat set → Heights set
+
+-- each instruction of the set is of the first lot
+abbrev pub IsOfFirstLot : Set → Type 0
+IsOfFirstLot set = All (λ c. All (λ m. All (λ i. (pc : ℕ) → in_first_lot (row_of pc i) ≡ true) m.code) c.methods) set.classes
+
+-- the law is of such a set
+abbrev pub FirstLotIsCovered : Type 0
+FirstLotIsCovered = (set : Set) → IsOfFirstLot set → IsCovered set
+
+-- what the law asks of a set
+pub record Meets (set : Set) : Type 0 where
+  pub loaded : IsLoaded set
+  pub covered : IsCovered set
+  pub verifies : Verifies set
+
+-- some set meets it
+abbrev pub LawIsOfSomeSet : Type 0
+LawIsOfSomeSet = (set : Set) × Meets set
