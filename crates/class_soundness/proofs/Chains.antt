@@ -2,10 +2,12 @@
 use Rattle.std.proofs.Common.{◌≡◌, ℕ, zero, suc, Bool, true, false, List, [], ◌∷◌, Option, Some, None, refl, sym, ap, subst, ◌∙◌, eqb, eq-eqb}
 use Rattle.std.specs.Prelude.{codes, ◌&&◌, ◌||◌}
 use Rattle.std.proofs.lemmas.Bool.{eqb-true}
+use Rattle.class_file.specs.declared.class.VType.{VType}
+use Rattle.class_file.specs.declared.class.VType.TheVariants as vtype
 use Rattle.class_file.specs.declared.class.Set.{Set}
 use Rattle.class_file.specs.Pools.{is_text}
 use Rattle.class_file.specs.Classes.{Element, built_ins, class_at, superclass, or_none, chain, chain_up_to, class_count}
-use Rattle.class_file.specs.Members.{reference_below, below_element, element_below, named_reference, is_interface_view, is_root, is_member, is_zero}
+use Rattle.class_file.specs.Members.{assignable, reference_below, below_element, element_below, named_reference, is_interface_view, is_root, is_member, is_zero}
 use Rattle.class_soundness.specs.Soundness.{IsLoaded}
 use Rattle.class_soundness.proofs.Loaded.{whole, interfaces}
 use Rattle.class_soundness.proofs.Found.{text_same}
@@ -28,6 +30,10 @@ data Either (a b : Bool) : Type 0 where
 either : (a b : Bool) → (a || b) ≡ true → Either a b
 either true b e = First refl
 either false b e = Second e
+
+or_left : (a b : Bool) → a ≡ true → (a || b) ≡ true
+or_left true b e = refl
+or_left false b e = absurd cc
 
 pub or_right : (a b : Bool) → b ≡ true → (a || b) ≡ true
 or_right true b e = refl
@@ -130,7 +136,7 @@ module _ (set : Set) (loaded : IsLoaded set) where
       by (Second x) (First y) more = First (subst (λ (c : ℕ). is_member a (chain set c) ≡ true) (eqb-true n b y) (in_chain (suc k) a n e))
       by (Second x) (Second y) more = above more (superclass set n) x y
 
-  -- ---- the types that only texts are of
+  -- ---- references below references
 
   zero_is : (m : ℕ) (b : Bool) → (is_zero m && b) ≡ true → b ≡ true
   zero_is zero b e = e
@@ -140,56 +146,87 @@ module _ (set : Set) (loaded : IsLoaded set) where
   by_chain : (x m y : ℕ) → is_root set y ≡ false → element_below set x m y 0 ≡ true → is_member y (chain set x) ≡ true
   by_chain x m y r e = zero_is m (is_member y (chain set x)) (subst (λ (b : Bool). (b || (is_zero m && is_member y (chain set x))) ≡ true) r e)
 
-  no_text_above : (y : ℕ) → is_root set y ≡ true → is_member 1 (chain set y) ≡ true → ⊥
-  no_text_above y r e = by (either (eqb y 0) (is_interface_view (class_at set y)) r)
-    where
-      apart : (let b : Bool = false in b) ≡ true → ⊥
-      apart e = cc
-
-      again : (b : Bool) → eqb y 1 ≡ b → (b || false) ≡ true → is_interface_view (class_at set y) ≡ true → ⊥
-      again true k e h = not_both (is_root set 1) (or_right (eqb 1 0) (is_interface_view (class_at set 1)) (subst (λ (n : ℕ). is_interface_view (class_at set n) ≡ true) (eqb-true y 1 k) h)) (text_is_no_root set)
-      again false k e h = apart e
-
-      by : Either (eqb y 0) (is_interface_view (class_at set y)) → ⊥
-      by (First k) = apart (subst (λ (ns : List ℕ). is_member 1 ns ≡ true) (ap (chain set) (eqb-true y 0 k) ∙ object_chain) e)
-      by (Second k) = again (eqb y 1) refl (subst (λ (ns : List ℕ). is_member 1 ns ≡ true) (below_object y (interfaces set loaded y k)) e) k
-
-  text_of_element : (x m : ℕ) → is_member 1 (chain set x) ≡ true → m ≡ 0 → element_below set x m 1 0 ≡ true
-  text_of_element x m e z = ap (λ (k : ℕ). element_below set x k 1 0) z ∙ or_right (is_root set 1) (is_member 1 (chain set x)) e
-
   zero_so : (m : ℕ) (b : Bool) → (is_zero m && b) ≡ true → m ≡ 0
   zero_so zero b e = refl
   zero_so (suc m) b e = absurd cc
 
-  -- an element below one that only texts are of
-  element_through : (x m y d : ℕ) → element_below set x m y d ≡ true → element_below set y d 1 0 ≡ true → element_below set x m 1 0 ≡ true
-  element_through x m y d e h = by d (zero_so d (is_member 1 (chain set y)) (subst (λ (b : Bool). (b || (is_zero d && is_member 1 (chain set y))) ≡ true) (text_is_no_root set) h)) e (by_chain y d 1 (text_is_no_root set) h)
+  -- what is above a root is one
+  root_above : (y z : ℕ) → is_root set y ≡ true → is_member z (chain set y) ≡ true → is_root set z ≡ true
+  root_above y z r e = by (either (eqb y 0) (is_interface_view (class_at set y)) r)
     where
-      to_zero : (d : ℕ) → d ≡ 0 → element_below set x m y d ≡ true → element_below set x m y 0 ≡ true
-      to_zero d z e = subst (λ (k : ℕ). element_below set x m y k ≡ true) z e
+      object : Either (eqb 0 z) false → is_root set z ≡ true
+      object (First k) = subst (λ (n : ℕ). is_root set n ≡ true) (eqb-true 0 z k) refl
+      object (Second k) = absurd cc
 
-      two : Either (is_root set y) (is_zero m && is_member y (chain set x)) → is_member 1 (chain set y) ≡ true → element_below set x m 1 0 ≡ true
-      two (First r) t = absurd (no_text_above y r t)
-      two (Second q) t = text_of_element x m (through (suc (class_count set)) 1 y x (zero_is m (is_member y (chain set x)) q) t) (zero_so m (is_member y (chain set x)) q)
+      above : Either (eqb y z) (eqb 0 z || false) → is_root set z ≡ true
+      above (First k) = subst (λ (n : ℕ). is_root set n ≡ true) (eqb-true y z k) r
+      above (Second k) = object (either (eqb 0 z) false k)
 
-      by : (d : ℕ) → d ≡ 0 → element_below set x m y d ≡ true → is_member 1 (chain set y) ≡ true → element_below set x m 1 0 ≡ true
-      by d z e t = two (either (is_root set y) (is_zero m && is_member y (chain set x)) (to_zero d z e)) t
+      by : Either (eqb y 0) (is_interface_view (class_at set y)) → is_root set z ≡ true
+      by (First k) = object (either (eqb 0 z) false (subst (λ (ns : List ℕ). is_member z ns ≡ true) (ap (chain set) (eqb-true y 0 k) ∙ object_chain) e))
+      by (Second k) = above (either (eqb y z) (eqb 0 z || false) (subst (λ (ns : List ℕ). is_member z ns ≡ true) (below_object y (interfaces set loaded y k)) e))
 
-  elements_through : (b c : Option Element) → below_element set b c ≡ true → below_element set c (Some (record { class = 1; dimensions = 0 })) ≡ true → below_element set b (Some (record { class = 1; dimensions = 0 })) ≡ true
-  elements_through None c e h = absurd cc
-  elements_through (Some x) None e h = absurd cc
-  elements_through (Some x) (Some y) e h = element_through x.class x.dimensions y.class y.dimensions e h
+  class_through : (x m y d z : ℕ) → element_below set x m y d ≡ true → element_below set y d z 0 ≡ true → element_below set x m z 0 ≡ true
+  class_through x m y d z e h = by (either (is_root set z) (is_zero d && is_member z (chain set y)) h)
+    where
+      in_class : m ≡ 0 → is_member z (chain set x) ≡ true → element_below set x m z 0 ≡ true
+      in_class k q = ap (λ (i : ℕ). element_below set x i z 0) k ∙ or_right (is_root set z) (is_member z (chain set x)) q
+
+      by_class : is_member z (chain set y) ≡ true → Either (is_root set y) (is_zero m && is_member y (chain set x)) → element_below set x m z 0 ≡ true
+      by_class q (First r) = or_left (is_root set z) (is_zero m && is_member z (chain set x)) (root_above y z r q)
+      by_class q (Second p) = in_class (zero_so m (is_member y (chain set x)) p) (through (suc (class_count set)) z y x (zero_is m (is_member y (chain set x)) p) q)
+
+      at_zero : (d : ℕ) → d ≡ 0 → element_below set x m y d ≡ true → element_below set x m y 0 ≡ true
+      at_zero d k e = subst (λ (i : ℕ). element_below set x m y i ≡ true) k e
+
+      by : Either (is_root set z) (is_zero d && is_member z (chain set y)) → element_below set x m z 0 ≡ true
+      by (First r) = or_left (is_root set z) (is_zero m && is_member z (chain set x)) r
+      by (Second q) = by_class (zero_is d (is_member z (chain set y)) q) (either (is_root set y) (is_zero m && is_member y (chain set x)) (at_zero d (zero_so d (is_member z (chain set y)) q) e))
+
+  element_through : (x m y d z n : ℕ) → element_below set x m y d ≡ true → element_below set y d z n ≡ true → element_below set x m z n ≡ true
+  element_through x m y d z zero e h = class_through x m y d z e h
+  element_through x m y zero z (suc n) e h = absurd cc
+  element_through x zero y (suc d) z (suc n) e h = absurd cc
+  element_through x (suc m) y (suc d) z (suc n) e h = element_through x m y d z n e h
+
+  elements_through : (a b c : Option Element) → below_element set a b ≡ true → below_element set b c ≡ true → below_element set a c ≡ true
+  elements_through None b c e h = absurd cc
+  elements_through (Some x) None c e h = absurd cc
+  elements_through (Some x) (Some y) None e h = absurd cc
+  elements_through (Some x) (Some y) (Some z) e h = element_through x.class x.dimensions y.class y.dimensions z.class z.dimensions e h
+
+  -- what is below a type is below what that is below
+  pub reference_through : (a b c : List ℕ) → reference_below set a b ≡ true → reference_below set b c ≡ true → reference_below set a c ≡ true
+  reference_through a b c e h =
+      by (either (is_text a b) (below_element set (named_reference set a) (named_reference set b)) e) (either (is_text b c) (below_element set (named_reference set b) (named_reference set c)) h)
+    where
+      by : Either (is_text a b) (below_element set (named_reference set a) (named_reference set b)) → Either (is_text b c) (below_element set (named_reference set b) (named_reference set c)) → reference_below set a c ≡ true
+      by (First k) q = subst (λ (n : List ℕ). reference_below set n c ≡ true) (sym (text_same a b k)) h
+      by (Second k) (First q) = subst (λ (n : List ℕ). reference_below set a n ≡ true) (text_same b c q) e
+      by (Second k) (Second q) = or_right (is_text a c) (below_element set (named_reference set a) (named_reference set c)) (elements_through (named_reference set a) (named_reference set b) (named_reference set c) k q)
 
   -- a type below one that only texts are of is one too
   pub text_below : (b c : List ℕ) → reference_below set b c ≡ true → is_text_type set c ≡ true → is_text_type set b ≡ true
-  text_below b c e h = by (either (is_text b c) (below_element set (named_reference set b) (named_reference set c)) e) (either (is_text c text_name) (below_element set (named_reference set c) (named_reference set text_name)) h)
-    where
-      by : Either (is_text b c) (below_element set (named_reference set b) (named_reference set c)) → Either (is_text c text_name) (below_element set (named_reference set c) (named_reference set text_name)) → is_text_type set b ≡ true
-      by (First k) q = subst (λ (n : List ℕ). is_text_type set n ≡ true) (sym (text_same b c k)) h
-      by (Second k) (First q) = subst (λ (n : List ℕ). reference_below set b n ≡ true) (text_same c text_name q) e
-      by (Second k) (Second q) =
-          or_right (is_text b text_name) (below_element set (named_reference set b) (named_reference set text_name))
-          (ap (below_element set (named_reference set b)) (text_number set) ∙ elements_through (named_reference set b) (named_reference set c) k (subst (λ (o : Option Element). below_element set (named_reference set c) o ≡ true) (text_number set) q))
+  text_below b c e h = reference_through b c text_name e h
+
+  pub assignable_through : (t u v : VType) → assignable set t u ≡ true → assignable set u v ≡ true → assignable set t v ≡ true
+  assignable_through t u vtype.Top e h = refl
+  assignable_through t vtype.Integer vtype.Integer e h = e
+  assignable_through t _ vtype.Integer e h = absurd cc
+  assignable_through t vtype.Long vtype.Long e h = e
+  assignable_through t _ vtype.Long e h = absurd cc
+  assignable_through t vtype.Null vtype.Null e h = e
+  assignable_through t _ vtype.Null e h = absurd cc
+  assignable_through t vtype.UninitializedThis vtype.UninitializedThis e h = e
+  assignable_through t _ vtype.UninitializedThis e h = absurd cc
+  assignable_through t (vtype.Uninitialized p) (vtype.Uninitialized q) e h = subst (λ (n : ℕ). assignable set t (vtype.Uninitialized n) ≡ true) (eqb-true p q h) e
+  assignable_through t _ (vtype.Uninitialized q) e h = absurd cc
+  assignable_through vtype.Null vtype.Null (vtype.Object c) e h = refl
+  assignable_through _ vtype.Null (vtype.Object c) e h = absurd cc
+  assignable_through vtype.Null (vtype.Object b) (vtype.Object c) e h = refl
+  assignable_through (vtype.Object a) (vtype.Object b) (vtype.Object c) e h = reference_through a b c e h
+  assignable_through _ (vtype.Object b) (vtype.Object c) e h = absurd cc
+  assignable_through t _ (vtype.Object c) e h = absurd cc
 
   -- ---- what can be thrown is no text
 

@@ -6,10 +6,11 @@ use Rattle.class_file.specs.declared.instr.Instr.{Instr}
 use Rattle.class_file.specs.declared.class.ClassFile.{ClassFile}
 use Rattle.class_file.specs.declared.class.Method.{Method}
 use Rattle.class_file.specs.declared.class.Set.{Set}
+use Rattle.class_file.specs.declared.class.VType.{VType}
 use Rattle.class_file.specs.Rows.{row_of}
 use Rattle.class_file.specs.Pools.{is_text}
 use Rattle.class_file.specs.Classes.{Coded, FoundMethod, is_abstract_flag, superclass, class_count, object_name, is_interface_flag}
-use Rattle.class_file.specs.Members.{is_array_name}
+use Rattle.class_file.specs.Members.{assignable, is_array_name}
 use Rattle.class_file.specs.Machine.{Over, Stuck, machine, fetch, main_method}
 use Rattle.class_file.specs.Verification.{Verifies, starts}
 use Rattle.class_file.specs.Lots.{in_first_lot}
@@ -79,3 +80,7 @@ pub record Meets (set : Set) : Type 0 where
 -- some set meets it
 abbrev pub LawIsOfSomeSet : Type 0
 LawIsOfSomeSet = (set : Set) × Meets set
+
+-- what is assignable to a type is assignable to all that this type is assignable to
+abbrev pub AssignabilityIsTransitive : Type 0
+AssignabilityIsTransitive = (set : Set) → IsLoaded set → (t u v : VType) → assignable set t u ≡ true → assignable set u v ≡ true → assignable set t v ≡ true

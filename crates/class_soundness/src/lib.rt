@@ -1,9 +1,9 @@
 //! Code that verifies is never stuck.
 #![tactic(auto)]
 
-ghost use Rattle.class_soundness.specs.Soundness.{FirstLotIsCovered, FlatSetsHaveHeights, LawIsOfSomeSet, VerifiedIsNeverStuck};
+ghost use Rattle.class_soundness.specs.Soundness.{AssignabilityIsTransitive, FirstLotIsCovered, FlatSetsHaveHeights, LawIsOfSomeSet, VerifiedIsNeverStuck};
 
-/// A loaded set that verifies, of the first instructions and without handlers, never gets the machine stuck, on any input.
+/// A loaded set that verifies and whose instructions are covered never gets the machine stuck, on any input (JVM Specification 4.10).
 pub fn verified_is_never_stuck()
     ensures { VerifiedIsNeverStuck }
 {}
@@ -21,4 +21,9 @@ pub fn first_lot_is_covered()
 /// The law is not empty: some set meets all that it asks for.
 pub fn law_is_of_some_set()
     ensures { LawIsOfSomeSet }
+{}
+
+/// In a loaded set what is assignable to a type is assignable to all that this type is assignable to.
+pub fn assignability_is_transitive()
+    ensures { AssignabilityIsTransitive }
 {}
