@@ -6,8 +6,6 @@ use Rattle.std.proofs.lemmas.List.{reverse-reverse, length-append, length-replic
 use mathlib.Core.List.{reverse_aux}
 use Rattle.class_file.specs.declared.value.Value.{Value}
 use Rattle.class_file.specs.declared.value.Value.TheVariants as value
-use Rattle.class_file.specs.declared.verify_code.VerifyCode.{VerifyCode}
-use Rattle.class_file.specs.declared.verify_code.VerifyCode.TheVariants.{WrongType}
 use Rattle.class_file.specs.declared.class.VType.{VType}
 use Rattle.class_file.specs.declared.class.VType.TheVariants as vtype
 use Rattle.class_file.specs.declared.class.ClassFile.{ClassFile}
@@ -20,13 +18,13 @@ use Rattle.class_file.specs.Classes.{ClassView, MethodView, FoundMethod, class_a
 use Rattle.class_file.specs.Natives.{Object}
 use Rattle.class_file.specs.Machine.{Callee, Static, callee, callee_at, callee_of, resolve, pool_of, may_call, may_name, is_interface_in, has_kind, Popped, take_args, popped, spread, first_locals}
 use Rattle.class_file.specs.Members.{Call, call_of, static_call, static_entry, static_member, has_static, when_there, is_interface_view, is_special, is_there, type_of_field}
-use Rattle.class_file.specs.Typing.{misuse, misuses, worse}
+use Rattle.class_file.specs.Typing.{misuse, misuses}
 use Rattle.class_file.specs.Verification.{padded}
 use Rattle.class_file.specs.Verification as verification
 use Rattle.class_soundness.specs.Soundness.{IsLoaded}
 use Rattle.class_soundness.proofs.Fits.{Has, Fits, Has-assign, Fits-append, Fits-replicate, Fits-length}
 use Rattle.class_soundness.proofs.Tests.{both_true}
-use Rattle.class_soundness.proofs.Rows.{used_well}
+use Rattle.class_soundness.proofs.Rows.{used_well, worse_none}
 use Rattle.class_soundness.proofs.Loaded.{owners}
 use Rattle.class_soundness.proofs.Found.{text_same, some_same, none_is, not_true}
 use Rattle.class_soundness.proofs.Natives.{HasAll}
@@ -154,12 +152,6 @@ module _ (set : Set) (loaded : IsLoaded set) where
 
 -- ---- arguments
 
-worse_none : (a b : Option VerifyCode) → worse a b ≡ None → (a ≡ None) × (b ≡ None)
-worse_none None b e = (refl, e)
-worse_none (Some WrongType) b e = absurd cc
-worse_none (Some c) None e = absurd cc
-worse_none (Some c) (Some d) e = absurd cc
-
 -- arguments are there, of their types
 pub record Taken (set : Set) (heap : List Object) (fs : List FieldType) (o : Option Popped) (below : List VType) : Type 0 where
   pub args : List Value
@@ -169,7 +161,7 @@ pub record Taken (set : Set) (heap : List Object) (fs : List FieldType) (o : Opt
   pub fits : Fits set heap rest below
 
 module _ (set : Set) (loaded : IsLoaded set) (heap : List Object) where
-  kind_has : (v : Value) (f : FieldType) → Has set heap v (type_of_field f) → has_kind (kind_of f) v ≡ true
+  pub kind_has : (v : Value) (f : FieldType) → Has set heap v (type_of_field f) → has_kind (kind_of f) v ≡ true
   kind_has (value.Int n) IntType h = refl
   kind_has _ IntType h = absurd h
   kind_has (value.Int n) CharType h = refl

@@ -21,6 +21,7 @@ use Rattle.class_soundness.proofs.Fits.{Fits, Grows, Fits-grows, Fits-assign}
 use Rattle.class_soundness.proofs.Tests.{both_true}
 use Rattle.class_soundness.proofs.Rows.{Comes}
 use Rattle.class_soundness.proofs.Natives.{HasAll}
+use Rattle.class_soundness.proofs.Stores.{Stored}
 use Rattle.class_soundness.proofs.Calls.{first_fit, first_room}
 
 -- an instruction starts there
@@ -81,7 +82,7 @@ module _ (set : Set) (loaded : IsLoaded set) (ver : Verifies set) where
 
   -- a state of such frames, or an end that is not stuck
   abbrev pub Fine : Next → Type 0
-  Fine (Going s) = Frames s.heap s.frames
+  Fine (Going s) = Frames s.heap s.frames × Stored set s.heap s.statics
   Fine (Over Ended out) = Unit {0}
   Fine (Over (Threw class message) out) = Unit {0}
   Fine (Over Stuck out) = ⊥

@@ -3,6 +3,8 @@ pub mod Found
 pub mod Loaded
 pub mod Chains
 pub mod Fits
+pub mod Stores
+pub mod Fields
 pub mod Rows
 pub mod Natives
 pub mod Calls

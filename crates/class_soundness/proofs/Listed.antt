@@ -38,6 +38,8 @@ covered row.Nop e = refl
 covered row.DupX1 e = refl
 covered row.Dup2 e = refl
 covered (row.Increment i n) e = refl
+covered (row.GetStatic i) e = refl
+covered (row.PutStatic i) e = refl
 covered _ e = e
 
 pub first_lot : FirstLotIsCovered

@@ -31,12 +31,12 @@ unfolding built_ins
 object_number set = refl
 
 -- the element at the first place that passes
-record Stands {X : Type 0} (p : X → Bool) (xs : List X) (i : ℕ) : Type 0 where
-  x : X
-  at : slice_get xs i ≡ Some x
-  passes : p x ≡ true
+pub record Stands {X : Type 0} (p : X → Bool) (xs : List X) (i : ℕ) : Type 0 where
+  pub x : X
+  pub at : slice_get xs i ≡ Some x
+  pub passes : p x ≡ true
 
-stands : {X : Type 0} (p : X → Bool) (xs : List X) (i : ℕ) → position p xs ≡ Some i → Stands p xs i
+pub stands : {X : Type 0} (p : X → Bool) (xs : List X) (i : ℕ) → position p xs ≡ Some i → Stands p xs i
 stands p [] i e = absurd cc
 stands p (x ∷ xs) i e =
     let f = position-Some p (x ∷ xs) i x e in

@@ -1,5 +1,5 @@
 -- A row whose types pass does not fail, and leaves values of the types after it.
-use Rattle.std.proofs.Common.{◌≡◌, ℕ, ◌+◌, ◌≤◌, Bool, true, false, cond, List, [], ◌∷◌, length, Option, Some, None, refl, sym, ap, subst, ◌∙◌, ℤ, pos}
+use Rattle.std.proofs.Common.{drop, ◌≡◌, ℕ, ◌+◌, ◌≤◌, Bool, true, false, cond, List, [], ◌∷◌, length, Option, Some, None, refl, sym, ap, subst, ◌∙◌, ℤ, pos}
 use Rattle.std.specs.Prelude.{slice_get, slice_set, Ok, Err, nat_lt}
 use Rattle.std.specs.Int.{w32, int_wrapping_add}
 use Rattle.std.proofs.lemmas.List.{length-set}
@@ -18,9 +18,9 @@ use Rattle.class_file.specs.declared.class.Set.{Set}
 use Rattle.class_file.specs.declared.verify_code.VerifyCode.{VerifyCode}
 use Rattle.class_file.specs.declared.verify_code.VerifyCode.TheVariants.{WrongType}
 use Rattle.class_file.specs.Natives.{Object}
-use Rattle.class_file.specs.Machine.{Static, Effect, Goes, Throws, LoadsConstant, LoadsLong, Compares, Invokes, Returns, Fails, effect, on_int, on_long, on_narrow, on_kind, on_ref, on_local, has_kind, is_narrow, places, stored, or_zero_divisor, incremented, int_answer, long_answer, holds, branch, is_null}
-use Rattle.class_file.specs.Members.{assignable, described}
-use Rattle.class_file.specs.Typing.{Types, Verdict, typed, t_int, t_long, t_narrow, t_kind, t_pop2, t_dup2, t_increment, t_reference, t_stored, t_returned, t_return, t_load, is_kind, takes_one, kind_width, reaches, result_types, refuse, misuse}
+use Rattle.class_file.specs.Machine.{GetsStatic, PutsStatic, Static, Effect, Goes, Throws, LoadsConstant, LoadsLong, Compares, Invokes, Returns, Fails, effect, on_int, on_long, on_narrow, on_kind, on_ref, on_local, has_kind, is_narrow, places, stored, or_zero_divisor, incremented, int_answer, long_answer, holds, branch, is_null}
+use Rattle.class_file.specs.Members.{assignable, described, FieldUse, field_use}
+use Rattle.class_file.specs.Typing.{misuses, worse, left, Types, Verdict, typed, t_int, t_long, t_narrow, t_kind, t_pop2, t_dup2, t_increment, t_reference, t_stored, t_returned, t_return, t_load, is_kind, takes_one, kind_width, reaches, result_types, refuse, misuse}
 use Rattle.class_file.specs.Verification.{jump_of, goes_on}
 use Rattle.class_soundness.specs.Soundness.{IsLoaded, is_covered}
 use Rattle.class_soundness.proofs.Fits.{Has, Fits, Has-kind, Has-narrow, Fits-get, Fits-stored, Fits-put, Has-assign}
@@ -32,16 +32,25 @@ pub record Comes (set : Set) (heap : List Object) (P : ℕ → Type 0) (size : �
   pub stack_fits : Fits set heap stack after.stack
   pub same : length locals ≡ size
 
+-- the frame comes so to the next instruction, with a value of the type of a static field
+pub record Puts (set : Set) (class : ClassFile) (heap : List Object) (P : ℕ → Type 0) (size : ℕ) (after : Types) (next : ℕ) (locals rest : List Value) (i : ℕ) (v : Value) : Type 0 where
+  pub comes : Comes set heap P size after next locals rest
+  pub use_ : FieldUse
+  pub is : field_use set true class i ≡ Some use_
+  pub has : Has set heap v use_.type
+
 -- what an effect leaves has the types after it, and is at a place that may follow
-abbrev pub Sound : Set → List Object → Option VType → (ℕ → Type 0) → ℕ → List Value → Row → Types → Effect → Type 0
-Sound set heap result P next ls r after (Goes at locals stack) = Comes set heap P (length ls) after at locals stack
-Sound set heap result P next ls r after (Throws x) = Unit {0}
-Sound set heap result P next ls r after (LoadsConstant i) = r ≡ row.PushConstant i
-Sound set heap result P next ls r after (LoadsLong i) = r ≡ row.PushLongConstant i
-Sound set heap result P next ls r after (Compares wanted to v w rest) = Comes set heap P (length ls) after to ls rest × Comes set heap P (length ls) after next ls rest
-Sound set heap result P next ls r after (Invokes Static i) = r ≡ row.InvokeStatic i
-Sound set heap result P next ls r after (Returns values) = Fits set heap values (result_types result)
-Sound set heap result P next ls r after _ = ⊥
+abbrev pub Sound : Set → ClassFile → List Object → Option VType → (ℕ → Type 0) → ℕ → List Value → Row → Types → Effect → Type 0
+Sound set class heap result P next ls r after (Goes at locals stack) = Comes set heap P (length ls) after at locals stack
+Sound set class heap result P next ls r after (Throws x) = Unit {0}
+Sound set class heap result P next ls r after (LoadsConstant i) = r ≡ row.PushConstant i
+Sound set class heap result P next ls r after (LoadsLong i) = r ≡ row.PushLongConstant i
+Sound set class heap result P next ls r after (Compares wanted to v w rest) = Comes set heap P (length ls) after to ls rest × Comes set heap P (length ls) after next ls rest
+Sound set class heap result P next ls r after (Invokes Static i) = r ≡ row.InvokeStatic i
+Sound set class heap result P next ls r after (Returns values) = Fits set heap values (result_types result)
+Sound set class heap result P next ls r after (GetsStatic i) = r ≡ row.GetStatic i
+Sound set class heap result P next ls r after (PutsStatic i v rest) = Puts set class heap P (length ls) after next ls rest i v
+Sound set class heap result P next ls r after _ = ⊥
 
 pub verdict_types : (x y : Types) → (let o : Verdict = Ok x in o) ≡ Ok y → x ≡ y
 verdict_types x y e = cc
@@ -72,6 +81,12 @@ no_code false c x y e = absurd (some_code c x y e)
 pub used_well : (set : Set) (w t : VType) → misuse set w t ≡ None → assignable set t w ≡ true
 used_well set w t e = no_code (assignable set t w) _ _ _ e
 
+pub worse_none : (a b : Option VerifyCode) → worse a b ≡ None → (a ≡ None) × (b ≡ None)
+worse_none None b e = (refl, e)
+worse_none (Some WrongType) b e = absurd cc
+worse_none (Some c) None e = absurd cc
+worse_none (Some c) (Some d) e = absurd cc
+
 neither : (b : Bool) (x y : VerifyCode) (after : Types) → (let v : Verdict = cond b (Err x) (Err y) in v) ≡ Ok after → ⊥
 neither true x y after e = cc
 neither false x y after e = cc
@@ -86,9 +101,9 @@ stored_length kinds.Int i v ls = length-set ls i v
 stored_length kinds.Long i v ls = length-set (slice_set ls i v) (i + 1) value.Nothing ∙ length-set ls i v
 stored_length kinds.Ref i v ls = length-set ls i v
 
-module _ (set : Set) (loaded : IsLoaded set) (heap : List Object) (result : Option VType) (P : ℕ → Type 0) (next : ℕ) (ls : List Value) (r : Row) (after : Types) where
+module _ (set : Set) (loaded : IsLoaded set) (class : ClassFile) (heap : List Object) (result : Option VType) (P : ℕ → Type 0) (next : ℕ) (ls : List Value) (r : Row) (after : Types) where
   abbrev Good : Effect → Type 0
-  Good e = Sound set heap result P next ls r after e
+  Good e = Sound set class heap result P next ls r after e
 
   -- an Int is taken off
   int_sound : (ts : List VType) (vs : List Value) (go : List VType → Verdict) (run : ℤ → List Value → Effect) → Fits set heap vs ts → t_int ts go ≡ Ok after
@@ -245,6 +260,16 @@ module _ (set : Set) (loaded : IsLoaded set) (heap : List Object) (result : Opti
   increment_sound t i n st (Some _) p l s at e = absurd (no_verdict WrongType after e)
   increment_sound t i n st None p l s at e = absurd (no_verdict WrongType after e)
 
+  put_sound : (t : Types) (i : ℕ) (ts : List VType) (st : List Value) (o : Option FieldUse) → field_use set true class i ≡ o → P next → Fits set heap ls t.locals → Fits set heap st ts
+      → (let v : Verdict = elim o [ None ↦ Err WrongType | Some f ↦ refuse (misuses set (f.type ∷ []) ts) (left t (drop 1 ts)) ] in v) ≡ Ok after → Good (effect (row.PutStatic i) next ls st)
+  put_sound t i ts st None k p l h e = absurd (no_verdict WrongType after e)
+  put_sound t i [] st (Some f) k p l h e = absurd (no_verdict WrongType after e)
+  put_sound t i (u ∷ ts) [] (Some f) k p l h e = absurd h
+  put_sound t i (u ∷ ts) (v ∷ vs) (Some f) k p l h e =
+      let q = refuses_not (misuses set (f.type ∷ []) (u ∷ ts)) (left t ts) after e in
+      let w = worse_none (misuse set f.type u) None q.0 in
+      record { comes = comes (record { locals = t.locals; stack = ts; unset = t.unset }) next ls vs q.1 p l h.1 refl; use_ = f; is = k; has = Has-assign set loaded heap v u f.type (used_well set f.type u w.0) h.0 }
+
   load_sound : (kind : Kind) (t : Types) (i : ℕ) (st : List Value) (o : Option VType) → P next → Fits set heap ls t.locals → Fits set heap st t.stack → slice_get t.locals i ≡ o
       → t_load kind t o ≡ Ok after → Good (on_local kind ls i (λ v. Goes next ls (v ∷ st)))
   load_sound kind t i st None p l s h e = absurd (no_verdict WrongType after e)
@@ -282,87 +307,89 @@ module _ (set : Set) (loaded : IsLoaded set) (class : ClassFile) (m : Method) (p
   result = (described m.descriptor).result
 
   abbrev GoodRow : Row → Type 0
-  GoodRow r = Sound set heap result P next ls r after (effect r next ls st)
+  GoodRow r = Sound set class heap result P next ls r after (effect r next ls st)
 
   abbrev left_so : List VType → Types
   left_so stack = record { locals = t.locals; stack = stack; unset = t.unset }
 
   pub row_sound : (r : Row) → is_covered r ≡ true → ((to : ℕ) → jump_of r ≡ Some to → P to) → (goes_on r ≡ true → P next) → reaches r ≤ length ls → typed set class m pc r t ≡ Ok after → GoodRow r
-  row_sound (row.PushInt n) lot j g room e = comes set loaded heap result P next ls (row.PushInt n) after (left_so (vtype.Integer ∷ t.stack)) next ls (value.Int n ∷ st) e (g refl) l (tt, s) refl
-  row_sound (row.PushLong n) lot j g room e = comes set loaded heap result P next ls (row.PushLong n) after (left_so (vtype.Long ∷ t.stack)) next ls (value.Long n ∷ st) e (g refl) l (tt, s) refl
-  row_sound row.PushNull lot j g room e = comes set loaded heap result P next ls row.PushNull after (left_so (vtype.Null ∷ t.stack)) next ls (value.Null ∷ st) e (g refl) l (tt, s) refl
+  row_sound (row.PushInt n) lot j g room e = comes set loaded class heap result P next ls (row.PushInt n) after (left_so (vtype.Integer ∷ t.stack)) next ls (value.Int n ∷ st) e (g refl) l (tt, s) refl
+  row_sound (row.PushLong n) lot j g room e = comes set loaded class heap result P next ls (row.PushLong n) after (left_so (vtype.Long ∷ t.stack)) next ls (value.Long n ∷ st) e (g refl) l (tt, s) refl
+  row_sound row.PushNull lot j g room e = comes set loaded class heap result P next ls row.PushNull after (left_so (vtype.Null ∷ t.stack)) next ls (value.Null ∷ st) e (g refl) l (tt, s) refl
   row_sound (row.PushConstant i) lot j g room e = refl
   row_sound (row.PushLongConstant i) lot j g room e = refl
-  row_sound (row.Load k i) lot j g room e = load_sound set loaded heap result P next ls (row.Load k i) after k t i st (slice_get t.locals i) (g refl) l s refl e
-  row_sound (row.Store k i) lot j g room e = store_sound set loaded heap result P next ls (row.Store k i) after k t i st (g refl) l s room e
-  row_sound row.Nop lot j g room e = comes set loaded heap result P next ls row.Nop after t next ls st e (g refl) l s refl
-  row_sound (row.Increment i n) lot j g room e = increment_sound set loaded heap result P next ls (row.Increment i n) after t i n st (slice_get t.locals i) (g refl) l s refl e
+  row_sound (row.Load k i) lot j g room e = load_sound set loaded class heap result P next ls (row.Load k i) after k t i st (slice_get t.locals i) (g refl) l s refl e
+  row_sound (row.Store k i) lot j g room e = store_sound set loaded class heap result P next ls (row.Store k i) after k t i st (g refl) l s room e
+  row_sound row.Nop lot j g room e = comes set loaded class heap result P next ls row.Nop after t next ls st e (g refl) l s refl
+  row_sound (row.Increment i n) lot j g room e = increment_sound set loaded class heap result P next ls (row.Increment i n) after t i n st (slice_get t.locals i) (g refl) l s refl e
   row_sound row.DupX1 lot j g room e =
-      narrow_pair set loaded heap result P next ls row.DupX1 after t.stack st (λ u v below. Ok (left_so (u ∷ v ∷ u ∷ below))) (λ v w below. Goes next ls (v ∷ w ∷ v ∷ below)) s e
-      (λ u1 u2 rest v w below e1 hv hw f. comes set loaded heap result P next ls row.DupX1 after (left_so (u1 ∷ u2 ∷ u1 ∷ rest)) next ls (v ∷ w ∷ v ∷ below) e1 (g refl) l (hv, (hw, (hv, f))) refl)
-  row_sound row.Dup2 lot j g room e = dup2_sound set loaded heap result P next ls row.Dup2 after t t.stack st (g refl) l s e
+      narrow_pair set loaded class heap result P next ls row.DupX1 after t.stack st (λ u v below. Ok (left_so (u ∷ v ∷ u ∷ below))) (λ v w below. Goes next ls (v ∷ w ∷ v ∷ below)) s e
+      (λ u1 u2 rest v w below e1 hv hw f. comes set loaded class heap result P next ls row.DupX1 after (left_so (u1 ∷ u2 ∷ u1 ∷ rest)) next ls (v ∷ w ∷ v ∷ below) e1 (g refl) l (hv, (hw, (hv, f))) refl)
+  row_sound row.Dup2 lot j g room e = dup2_sound set loaded class heap result P next ls row.Dup2 after t t.stack st (g refl) l s e
+  row_sound (row.GetStatic i) lot j g room e = refl
+  row_sound (row.PutStatic i) lot j g room e = put_sound set loaded class heap result P next ls (row.PutStatic i) after t i t.stack st (field_use set true class i) refl (g refl) l s e
   row_sound row.Pop lot j g room e =
-      narrow_sound set loaded heap result P next ls row.Pop after t.stack st _ _ s e
-      (λ u rest v below e1 hv f. comes set loaded heap result P next ls row.Pop after (left_so rest) next ls below e1 (g refl) l f refl)
+      narrow_sound set loaded class heap result P next ls row.Pop after t.stack st _ _ s e
+      (λ u rest v below e1 hv f. comes set loaded class heap result P next ls row.Pop after (left_so rest) next ls below e1 (g refl) l f refl)
   row_sound row.Pop2 lot j g room e =
-      pop2_sound set loaded heap result P next ls row.Pop2 after t.stack st _ s e
-      (λ rest below e1 f. comes set loaded heap result P next ls row.Pop2 after (left_so rest) next ls below e1 (g refl) l f refl)
+      pop2_sound set loaded class heap result P next ls row.Pop2 after t.stack st _ s e
+      (λ rest below e1 f. comes set loaded class heap result P next ls row.Pop2 after (left_so rest) next ls below e1 (g refl) l f refl)
   row_sound row.Dup lot j g room e =
-      narrow_sound set loaded heap result P next ls row.Dup after t.stack st _ _ s e
-      (λ u rest v below e1 hv f. comes set loaded heap result P next ls row.Dup after (left_so (u ∷ u ∷ rest)) next ls (v ∷ v ∷ below) e1 (g refl) l (hv, (hv, f)) refl)
+      narrow_sound set loaded class heap result P next ls row.Dup after t.stack st _ _ s e
+      (λ u rest v below e1 hv f. comes set loaded class heap result P next ls row.Dup after (left_so (u ∷ u ∷ rest)) next ls (v ∷ v ∷ below) e1 (g refl) l (hv, (hv, f)) refl)
   row_sound (row.IntBinary o) lot j g room e =
-      int_sound set loaded heap result P next ls (row.IntBinary o) after t.stack st _ _ s e
-      (λ rest y below e1 f. int_sound set loaded heap result P next ls (row.IntBinary o) after rest below _ _ f e1
-      (λ more x deep e2 f2. divides set loaded heap result P next ls (row.IntBinary o) after (int_answer o x y) _ (λ n. comes set loaded heap result P next ls (row.IntBinary o) after (left_so (vtype.Integer ∷ more)) next ls (value.Int n ∷ deep) e2 (g refl) l (tt, f2) refl)))
+      int_sound set loaded class heap result P next ls (row.IntBinary o) after t.stack st _ _ s e
+      (λ rest y below e1 f. int_sound set loaded class heap result P next ls (row.IntBinary o) after rest below _ _ f e1
+      (λ more x deep e2 f2. divides set loaded class heap result P next ls (row.IntBinary o) after (int_answer o x y) _ (λ n. comes set loaded class heap result P next ls (row.IntBinary o) after (left_so (vtype.Integer ∷ more)) next ls (value.Int n ∷ deep) e2 (g refl) l (tt, f2) refl)))
   row_sound (row.LongBinary o) lot j g room e =
-      long_sound set loaded heap result P next ls (row.LongBinary o) after t.stack st _ _ s e
-      (λ rest y below e1 f. long_sound set loaded heap result P next ls (row.LongBinary o) after rest below _ _ f e1
-      (λ more x deep e2 f2. divides set loaded heap result P next ls (row.LongBinary o) after (long_answer o x y) _ (λ n. comes set loaded heap result P next ls (row.LongBinary o) after (left_so (vtype.Long ∷ more)) next ls (value.Long n ∷ deep) e2 (g refl) l (tt, f2) refl)))
+      long_sound set loaded class heap result P next ls (row.LongBinary o) after t.stack st _ _ s e
+      (λ rest y below e1 f. long_sound set loaded class heap result P next ls (row.LongBinary o) after rest below _ _ f e1
+      (λ more x deep e2 f2. divides set loaded class heap result P next ls (row.LongBinary o) after (long_answer o x y) _ (λ n. comes set loaded class heap result P next ls (row.LongBinary o) after (left_so (vtype.Long ∷ more)) next ls (value.Long n ∷ deep) e2 (g refl) l (tt, f2) refl)))
   row_sound (row.IntShift o) lot j g room e =
-      int_sound set loaded heap result P next ls (row.IntShift o) after t.stack st _ _ s e
-      (λ rest y below e1 f. int_sound set loaded heap result P next ls (row.IntShift o) after rest below _ _ f e1
-      (λ more x deep e2 f2. comes set loaded heap result P next ls (row.IntShift o) after (left_so (vtype.Integer ∷ more)) next ls (value.Int _ ∷ deep) e2 (g refl) l (tt, f2) refl))
+      int_sound set loaded class heap result P next ls (row.IntShift o) after t.stack st _ _ s e
+      (λ rest y below e1 f. int_sound set loaded class heap result P next ls (row.IntShift o) after rest below _ _ f e1
+      (λ more x deep e2 f2. comes set loaded class heap result P next ls (row.IntShift o) after (left_so (vtype.Integer ∷ more)) next ls (value.Int _ ∷ deep) e2 (g refl) l (tt, f2) refl))
   row_sound (row.LongShift o) lot j g room e =
-      int_sound set loaded heap result P next ls (row.LongShift o) after t.stack st _ _ s e
-      (λ rest y below e1 f. long_sound set loaded heap result P next ls (row.LongShift o) after rest below _ _ f e1
-      (λ more x deep e2 f2. comes set loaded heap result P next ls (row.LongShift o) after (left_so (vtype.Long ∷ more)) next ls (value.Long _ ∷ deep) e2 (g refl) l (tt, f2) refl))
+      int_sound set loaded class heap result P next ls (row.LongShift o) after t.stack st _ _ s e
+      (λ rest y below e1 f. long_sound set loaded class heap result P next ls (row.LongShift o) after rest below _ _ f e1
+      (λ more x deep e2 f2. comes set loaded class heap result P next ls (row.LongShift o) after (left_so (vtype.Long ∷ more)) next ls (value.Long _ ∷ deep) e2 (g refl) l (tt, f2) refl))
   row_sound row.IntNeg lot j g room e =
-      int_sound set loaded heap result P next ls row.IntNeg after t.stack st _ _ s e
-      (λ rest x below e1 f. comes set loaded heap result P next ls row.IntNeg after (left_so (vtype.Integer ∷ rest)) next ls (value.Int _ ∷ below) e1 (g refl) l (tt, f) refl)
+      int_sound set loaded class heap result P next ls row.IntNeg after t.stack st _ _ s e
+      (λ rest x below e1 f. comes set loaded class heap result P next ls row.IntNeg after (left_so (vtype.Integer ∷ rest)) next ls (value.Int _ ∷ below) e1 (g refl) l (tt, f) refl)
   row_sound row.LongNeg lot j g room e =
-      long_sound set loaded heap result P next ls row.LongNeg after t.stack st _ _ s e
-      (λ rest x below e1 f. comes set loaded heap result P next ls row.LongNeg after (left_so (vtype.Long ∷ rest)) next ls (value.Long _ ∷ below) e1 (g refl) l (tt, f) refl)
+      long_sound set loaded class heap result P next ls row.LongNeg after t.stack st _ _ s e
+      (λ rest x below e1 f. comes set loaded class heap result P next ls row.LongNeg after (left_so (vtype.Long ∷ rest)) next ls (value.Long _ ∷ below) e1 (g refl) l (tt, f) refl)
   row_sound row.IntToLong lot j g room e =
-      int_sound set loaded heap result P next ls row.IntToLong after t.stack st _ _ s e
-      (λ rest x below e1 f. comes set loaded heap result P next ls row.IntToLong after (left_so (vtype.Long ∷ rest)) next ls (value.Long _ ∷ below) e1 (g refl) l (tt, f) refl)
+      int_sound set loaded class heap result P next ls row.IntToLong after t.stack st _ _ s e
+      (λ rest x below e1 f. comes set loaded class heap result P next ls row.IntToLong after (left_so (vtype.Long ∷ rest)) next ls (value.Long _ ∷ below) e1 (g refl) l (tt, f) refl)
   row_sound row.LongToInt lot j g room e =
-      long_sound set loaded heap result P next ls row.LongToInt after t.stack st _ _ s e
-      (λ rest x below e1 f. comes set loaded heap result P next ls row.LongToInt after (left_so (vtype.Integer ∷ rest)) next ls (value.Int _ ∷ below) e1 (g refl) l (tt, f) refl)
+      long_sound set loaded class heap result P next ls row.LongToInt after t.stack st _ _ s e
+      (λ rest x below e1 f. comes set loaded class heap result P next ls row.LongToInt after (left_so (vtype.Integer ∷ rest)) next ls (value.Int _ ∷ below) e1 (g refl) l (tt, f) refl)
   row_sound row.IntToChar lot j g room e =
-      int_sound set loaded heap result P next ls row.IntToChar after t.stack st _ _ s e
-      (λ rest x below e1 f. comes set loaded heap result P next ls row.IntToChar after (left_so (vtype.Integer ∷ rest)) next ls (value.Int _ ∷ below) e1 (g refl) l (tt, f) refl)
+      int_sound set loaded class heap result P next ls row.IntToChar after t.stack st _ _ s e
+      (λ rest x below e1 f. comes set loaded class heap result P next ls row.IntToChar after (left_so (vtype.Integer ∷ rest)) next ls (value.Int _ ∷ below) e1 (g refl) l (tt, f) refl)
   row_sound row.LongCompare lot j g room e =
-      long_sound set loaded heap result P next ls row.LongCompare after t.stack st _ _ s e
-      (λ rest y below e1 f. long_sound set loaded heap result P next ls row.LongCompare after rest below _ _ f e1
-      (λ more x deep e2 f2. comes set loaded heap result P next ls row.LongCompare after (left_so (vtype.Integer ∷ more)) next ls (value.Int _ ∷ deep) e2 (g refl) l (tt, f2) refl))
+      long_sound set loaded class heap result P next ls row.LongCompare after t.stack st _ _ s e
+      (λ rest y below e1 f. long_sound set loaded class heap result P next ls row.LongCompare after rest below _ _ f e1
+      (λ more x deep e2 f2. comes set loaded class heap result P next ls row.LongCompare after (left_so (vtype.Integer ∷ more)) next ls (value.Int _ ∷ deep) e2 (g refl) l (tt, f2) refl))
   row_sound (row.IfZero test to) lot j g room e =
-      int_sound set loaded heap result P next ls (row.IfZero test to) after t.stack st _ _ s e
-      (λ rest x below e1 f. comes set loaded heap result P next ls (row.IfZero test to) after (left_so rest) _ ls below e1 (one_of set loaded heap result P next ls (row.IfZero test to) after (holds test x (pos 0)) to (j to refl) (g refl)) l f refl)
+      int_sound set loaded class heap result P next ls (row.IfZero test to) after t.stack st _ _ s e
+      (λ rest x below e1 f. comes set loaded class heap result P next ls (row.IfZero test to) after (left_so rest) _ ls below e1 (one_of set loaded class heap result P next ls (row.IfZero test to) after (holds test x (pos 0)) to (j to refl) (g refl)) l f refl)
   row_sound (row.IfCompare test to) lot j g room e =
-      int_sound set loaded heap result P next ls (row.IfCompare test to) after t.stack st _ _ s e
-      (λ rest y below e1 f. int_sound set loaded heap result P next ls (row.IfCompare test to) after rest below _ _ f e1
-      (λ more x deep e2 f2. comes set loaded heap result P next ls (row.IfCompare test to) after (left_so more) _ ls deep e2 (one_of set loaded heap result P next ls (row.IfCompare test to) after (holds test x y) to (j to refl) (g refl)) l f2 refl))
+      int_sound set loaded class heap result P next ls (row.IfCompare test to) after t.stack st _ _ s e
+      (λ rest y below e1 f. int_sound set loaded class heap result P next ls (row.IfCompare test to) after rest below _ _ f e1
+      (λ more x deep e2 f2. comes set loaded class heap result P next ls (row.IfCompare test to) after (left_so more) _ ls deep e2 (one_of set loaded class heap result P next ls (row.IfCompare test to) after (holds test x y) to (j to refl) (g refl)) l f2 refl))
   row_sound (row.IfNull wanted to) lot j g room e =
-      reference_sound set loaded heap result P next ls (row.IfNull wanted to) after t.stack st _ _ s e
-      (λ rest v below e1 f. comes set loaded heap result P next ls (row.IfNull wanted to) after (left_so rest) _ ls below e1 (branched set loaded heap result P next ls (row.IfNull wanted to) after wanted (is_null v) to (j to refl) (g refl)) l f refl)
+      reference_sound set loaded class heap result P next ls (row.IfNull wanted to) after t.stack st _ _ s e
+      (λ rest v below e1 f. comes set loaded class heap result P next ls (row.IfNull wanted to) after (left_so rest) _ ls below e1 (branched set loaded class heap result P next ls (row.IfNull wanted to) after wanted (is_null v) to (j to refl) (g refl)) l f refl)
   row_sound (row.IfSame wanted to) lot j g room e =
-      reference_sound set loaded heap result P next ls (row.IfSame wanted to) after t.stack st _ _ s e
-      (λ rest w below e1 f. reference_sound set loaded heap result P next ls (row.IfSame wanted to) after rest below _ _ f e1
-      (λ more v deep e2 f2. (comes set loaded heap result P next ls (row.IfSame wanted to) after (left_so more) to ls deep e2 (j to refl) l f2 refl, comes set loaded heap result P next ls (row.IfSame wanted to) after (left_so more) next ls deep e2 (g refl) l f2 refl)))
-  row_sound (row.Goto to) lot j g room e = comes set loaded heap result P next ls (row.Goto to) after t to ls st e (j to refl) l s refl
-  row_sound row.Return lot j g room e = no_result set loaded heap result P next ls row.Return after result t e
+      reference_sound set loaded class heap result P next ls (row.IfSame wanted to) after t.stack st _ _ s e
+      (λ rest w below e1 f. reference_sound set loaded class heap result P next ls (row.IfSame wanted to) after rest below _ _ f e1
+      (λ more v deep e2 f2. (comes set loaded class heap result P next ls (row.IfSame wanted to) after (left_so more) to ls deep e2 (j to refl) l f2 refl, comes set loaded class heap result P next ls (row.IfSame wanted to) after (left_so more) next ls deep e2 (g refl) l f2 refl)))
+  row_sound (row.Goto to) lot j g room e = comes set loaded class heap result P next ls (row.Goto to) after t to ls st e (j to refl) l s refl
+  row_sound row.Return lot j g room e = no_result set loaded class heap result P next ls row.Return after result t e
   row_sound (row.ReturnValue k) lot j g room e =
-      kind_sound set loaded heap result P next ls (row.ReturnValue k) after k t.stack st _ _ s e
-      (λ u rest v below e1 hv f. value_fits set loaded heap result P next ls (row.ReturnValue k) after result t k u rest v e1 hv)
+      kind_sound set loaded class heap result P next ls (row.ReturnValue k) after k t.stack st _ _ s e
+      (λ u rest v below e1 hv f. value_fits set loaded class heap result P next ls (row.ReturnValue k) after result t k u rest v e1 hv)
   row_sound (row.InvokeStatic i) lot j g room e = refl
   row_sound _ lot j g room e = absurd cc

@@ -18,21 +18,23 @@ use Rattle.class_file.specs.declared.verify_code.VerifyCode.{VerifyCode}
 use Rattle.class_file.specs.declared.verify_code.VerifyCode.TheVariants.{LocalRange, WrongType}
 use Rattle.class_file.specs.Rows.{length_of, row_of}
 use Rattle.class_file.specs.Pools.{Constant, Number, Literal, constant_in, long_in, entry_at, is_text}
-use Rattle.class_file.specs.Descriptors.{signature}
-use Rattle.class_file.specs.Classes.{Body, Coded, FoundMethod, class_number, chain, supertypes}
+use Rattle.class_file.specs.Descriptors.{FieldType, signature, field_type}
+use Rattle.class_file.specs.Classes.{FoundField, Body, Coded, FoundMethod, class_number, chain, supertypes}
 use Rattle.class_file.specs.Natives.{Object, TextObject}
-use Rattle.class_file.specs.Machine.{Active, State, Next, Going, Over, with, goes_on, branch, is_same, Static, Callee, Popped, resolve, invoked, called, static_call, run, loaded, constant, long_constant, pool_of, Effect, Goes, Throws, LoadsConstant, LoadsLong, Compares, Invokes, Returns, effect, after, executed, fetch, begun, main_method, main_found, with_started, begin, running, step, on_from, first, method_at}
+use Rattle.class_file.specs.Machine.{GetsStatic, PutsStatic, resolve_field, got_static, put_static, static_value, with_static, suits, only_if, Active, State, Next, Going, Over, with, goes_on, branch, is_same, Static, Callee, Popped, resolve, invoked, called, static_call, run, loaded, constant, long_constant, pool_of, Effect, Goes, Throws, LoadsConstant, LoadsLong, Compares, Invokes, Returns, effect, after, executed, fetch, begun, main_method, main_found, with_started, begin, running, step, on_from, first, method_at}
 use Rattle.class_file.specs.Members as members
 use Rattle.class_file.specs.Members.{described, type_of_field, call_of}
-use Rattle.class_file.specs.Typing.{Types, Verdict, typed, size_fault, reaches, result_types, misuses, t_call, t_pushed, constant_type, long_constant_type}
+use Rattle.class_file.specs.Typing.{t_get_static, Types, Verdict, typed, size_fault, reaches, result_types, misuses, t_call, t_pushed, constant_type, long_constant_type}
 use Rattle.class_file.specs.Verification.{Verifies, Enters, Passes, jump_of, starts}
 use Rattle.class_file.specs.Verification as verification
 use Rattle.class_soundness.specs.Soundness.{IsLoaded, IsCovered, VerifiedIsNeverStuck}
 use Rattle.class_soundness.proofs.Fits.{Has, Fits, Grows, Fits-append, Fits-grows, grows_by, new_text_is}
-use Rattle.class_soundness.proofs.Rows.{Sound, Comes, row_sound, refuses_not, no_verdict, verdict_types}
+use Rattle.class_soundness.proofs.Rows.{Puts, Sound, Comes, row_sound, refuses_not, no_verdict, verdict_types}
 use Rattle.class_soundness.proofs.Found.{Runnable, IsNative, IsCoded, IsAbstract, runnable, none_is, some_same}
-use Rattle.class_soundness.proofs.Calls.{calls, arguments, found_first}
+use Rattle.class_soundness.proofs.Calls.{kind_has, calls, arguments, found_first}
 use Rattle.class_soundness.proofs.Frames.{Fine, Frames, Below, Runs, Waits, takes, gives, before, method_there, fetched, goes_to, below_grow, starting_at}
+use Rattle.class_soundness.proofs.Fields.{resolved}
+use Rattle.class_soundness.proofs.Stores.{Stored, HasField, stored_grows, first_stored, stored_put}
 use Rattle.class_soundness.proofs.Throws.{throws_fine}
 use Rattle.class_soundness.proofs.Steps.{with_started_fine, body_fine, returned_fine, entered_fine, no_result}
 
@@ -52,7 +54,7 @@ within : (set : Set) (c : ClassFile) (m : Method) (r : Row) (t : Types) → size
 within set c m r t e = ltb-false m.max_locals (reaches r) (no_code (nat_lt m.max_locals (length t.locals)) (nat_lt m.max_locals (reaches r)) LocalRange _ e)
 
 module _ (set : Set) (is_loaded : IsLoaded set) (covered : IsCovered set) (ver : Verifies set) where
-  module _ (s : State) (f : Active) (fs : List Active) (r : Runs set is_loaded ver s.heap f) (b : Below set is_loaded ver s.heap (gives set is_loaded ver f r.placed) f.starts fs) (next : ℕ) (next_is : next ≡ f.at + length_of r.start.instr) where
+  module _ (s : State) (st : Stored set s.heap s.statics) (f : Active) (fs : List Active) (r : Runs set is_loaded ver s.heap f) (b : Below set is_loaded ver s.heap (gives set is_loaded ver f r.placed) f.starts fs) (next : ℕ) (next_is : next ≡ f.at + length_of r.start.instr) where
     abbrev now : Types
     now = before set is_loaded ver f r.placed f.at
 
@@ -75,12 +77,12 @@ module _ (set : Set) (is_loaded : IsLoaded set) (covered : IsCovered set) (ver :
 
     loaded_fine : (o : Option Constant) (after_ : Types) → t_pushed now (constant_type o) ≡ Ok after_ → to_next after_ → Fine set is_loaded ver (loaded s f fs next o)
     loaded_fine None after_ e to = absurd (no_verdict WrongType after_ e)
-    loaded_fine (Some (Number n)) after_ e to = pushed vtype.Integer after_ e to s.heap (λ r t. t) (value.Int n) tt
+    loaded_fine (Some (Number n)) after_ e to = (pushed vtype.Integer after_ e to s.heap (λ r t. t) (value.Int n) tt, st)
     loaded_fine (Some (Literal units)) after_ e to =
-        pushed (vtype.Object (codes "java/lang/String")) after_ e to (s.heap ++ TextObject units ∷ []) (grows_by s.heap (TextObject units ∷ [])) (value.Ref (length s.heap)) (λ e. new_text_is s.heap units)
+        (pushed (vtype.Object (codes "java/lang/String")) after_ e to (s.heap ++ TextObject units ∷ []) (grows_by s.heap (TextObject units ∷ [])) (value.Ref (length s.heap)) (λ e. new_text_is s.heap units), stored_grows set s.heap (s.heap ++ TextObject units ∷ []) (grows_by s.heap (TextObject units ∷ [])) s.statics st)
 
     long_fine : (o : Option Entry) (after_ : Types) → t_pushed now (long_constant_type o) ≡ Ok after_ → to_next after_ → Fine set is_loaded ver (with s (long_in o) (λ n. goes_on s f fs next (value.Long n ∷ f.stack)))
-    long_fine (Some (entry.Long n)) after_ e to = pushed vtype.Long after_ e to s.heap (λ r t. t) (value.Long n) tt
+    long_fine (Some (entry.Long n)) after_ e to = (pushed vtype.Long after_ e to s.heap (λ r t. t) (value.Long n) tt, st)
     long_fine (Some _) after_ e to = absurd (no_verdict WrongType after_ e)
     long_fine None after_ e to = absurd (no_verdict WrongType after_ e)
 
@@ -116,9 +118,9 @@ module _ (set : Set) (is_loaded : IsLoaded set) (covered : IsCovered set) (ver :
     called_fine to name descriptor x signed runs well same shape goes =
         let below = drop (length (call_of to.signature).params) now.stack in
         let a = arguments set is_loaded s.heap to.signature.params f.stack now.stack r.stack well in
-        with_started_fine set is_loaded ver s (f ∷ fs) to.found.class (λ t. static_call set t f fs next to) (r, b) (λ started.
+        with_started_fine set is_loaded ver s st (f ∷ fs) to.found.class (λ t. static_call set t f fs next to) (r, b) (λ started.
         subst (λ (o : Option Popped). Fine set is_loaded ver (with (record s { started = started }) o (λ p. run set (record s { started = started }) (record f { stack = p.rest }) fs next p.args to.found.method.body))) (sym a.is)
-        (body_fine set is_loaded ver (record s { started = started }) (record f { stack = a.rest }) fs next a.args name descriptor to.signature signed to.found.method.body runs a.have
+        (body_fine set is_loaded ver (record s { started = started }) st (record f { stack = a.rest }) fs next a.args name descriptor to.signature signed to.found.method.body runs a.have
         (λ heap g vs h. onward x same goes heap g (vs ++ a.rest) (subst (λ (ts : List VType). Fits set heap (vs ++ a.rest) ts) (sym shape) (Fits-append set heap vs a.rest _ below h (Fits-grows set s.heap heap g a.rest below a.fits))))
         (waits x same goes (call_of to.signature).result below shape a.rest a.fits)))
 
@@ -132,22 +134,50 @@ module _ (set : Set) (is_loaded : IsLoaded set) (covered : IsCovered set) (ver :
         subst (λ (o : Option Callee). Fine set is_loaded ver (invoked set s f fs next Static o)) (sym c.is)
         (called_fine c.to c.name c.descriptor x c.signed (runnable set c.name c.descriptor c.to.found.class c.to.found.method c.own) p.0 refl refl (subst to_next (sym (verdict_types x after_ p.1)) to))
 
+    -- ---- static fields
+
+    gets_fine : (i : ℕ) (o : Option members.FieldUse) (after_ : Types) → members.field_use set true r.placed.c i ≡ o → t_get_static now o ≡ Ok after_ → to_next after_ → Fine set is_loaded ver (with s (resolve_field set true f.class i) (got_static set s f fs next))
+    gets_fine i None after_ k e to = absurd (no_verdict WrongType after_ e)
+    gets_fine i (Some u) after_ k e to =
+        let x = resolved set f.class r.placed.c i u r.placed.class_is k in
+        let h = st x.to.class x.to.place x.standing.view x.standing.at in
+        let typed_so : field_type x.standing.view.descriptor ≡ Some x.t = ap field_type x.standing.same ∙ x.typed in
+        let has : Has set s.heap h.v u.type = subst (λ (t : VType). Has set s.heap h.v t) x.type_is (subst (λ (o : Option FieldType). HasField set s.heap h.v o) typed_so h.has) in
+        subst (λ (o : Option FoundField). Fine set is_loaded ver (with s o (got_static set s f fs next))) (sym x.is)
+        (with_started_fine set is_loaded ver s st (f ∷ fs) x.to.class (λ t. with t (static_value t x.to) (λ v. goes_on t f fs next (v ∷ f.stack))) (r, b) (λ started.
+        subst (λ (o : Option Value). Fine set is_loaded ver (with (record s { started = started }) o (λ v. goes_on (record s { started = started }) f fs next (v ∷ f.stack)))) (sym h.is) (pushed u.type after_ e to s.heap (λ r t. t) h.v has, st)))
+
+    puts_fine : (i : ℕ) (v : Value) (rest : List Value) (after_ : Types) → Puts set r.placed.c s.heap (Enters set r.placed.m (before set is_loaded ver f r.placed) after_) (length f.locals) after_ next f.locals rest i v
+        → Frames set is_loaded ver s.heap (record f { at = next; stack = rest } ∷ fs) → Fine set is_loaded ver (with s (resolve_field set true f.class i) (put_static set s f fs next v rest))
+    puts_fine i v rest after_ p goes =
+        let x = resolved set f.class r.placed.c i p.use_ r.placed.class_is p.is in
+        let h = st x.to.class x.to.place x.standing.view x.standing.at in
+        let typed_so : field_type x.standing.view.descriptor ≡ Some x.t = ap field_type x.standing.same ∙ x.typed in
+        let has : Has set s.heap v (type_of_field x.t) = subst (λ (t : VType). Has set s.heap v t) (sym x.type_is) p.has in
+        let held : HasField set s.heap v (field_type x.standing.view.descriptor) = subst (λ (o : Option FieldType). HasField set s.heap v o) (sym typed_so) has in
+        let suits_so : suits (field_type x.to.descriptor) v ≡ true = ap (λ (o : Option FieldType). suits o v) x.typed ∙ kind_has set is_loaded s.heap v x.t has in
+        subst (λ (o : Option FoundField). Fine set is_loaded ver (with s o (put_static set s f fs next v rest))) (sym x.is)
+        (with_started_fine set is_loaded ver s st (f ∷ fs) x.to.class (λ t. only_if t (suits (field_type x.to.descriptor) v) (with t (static_value t x.to) (λ old. goes_on (with_static t x.to v) f fs next rest))) (r, b) (λ started.
+        subst (λ (b : Bool). Fine set is_loaded ver (only_if (record s { started = started }) b (with (record s { started = started }) (static_value s x.to) (λ old. goes_on (with_static (record s { started = started }) x.to v) f fs next rest)))) (sym suits_so)
+        (subst (λ (o : Option Value). Fine set is_loaded ver (with (record s { started = started }) o (λ old. goes_on (with_static (record s { started = started }) x.to v) f fs next rest))) (sym h.is)
+        (goes, stored_put set s.heap s.statics st x.to.class x.to.place x.standing.view v x.standing.at held))))
+
     -- ---- what a row's effect makes of the state
 
     choose : (wanted so : Bool) (to : ℕ) (rest : List Value) → Frames set is_loaded ver s.heap (record f { at = to; stack = rest } ∷ fs) → Frames set is_loaded ver s.heap (record f { at = next; stack = rest } ∷ fs) → Fine set is_loaded ver (goes_on s f fs (branch wanted so to next) rest)
-    choose true true to rest p q = p
-    choose true false to rest p q = q
-    choose false true to rest p q = q
-    choose false false to rest p q = p
+    choose true true to rest p q = (p, st)
+    choose true false to rest p q = (q, st)
+    choose false true to rest p q = (q, st)
+    choose false false to rest p q = (p, st)
 
     come : (after_ : Types) (at : ℕ) (locals stack : List Value) → Comes set s.heap (Enters set r.placed.m (before set is_loaded ver f r.placed) after_) (length f.locals) after_ at locals stack → Frames set is_loaded ver s.heap (record f { at = at; locals = locals; stack = stack } ∷ fs)
     unfolding goes_to
     come after_ at locals stack h = (goes_to set is_loaded ver s.heap f r.placed after_ at locals stack h, b)
 
     after_fine : (w : Row) (after_ : Types) (x : Effect) → row_of f.at r.start.instr ≡ w → typed set r.placed.c r.placed.m f.at w now ≡ Ok after_ → (verification.goes_on w ≡ true → to_next after_)
-        → Sound set s.heap (gives set is_loaded ver f r.placed) (Enters set r.placed.m (before set is_loaded ver f r.placed) after_) next f.locals w after_ x → Fine set is_loaded ver (after set s f fs next x)
-    after_fine w after_ (Goes at locals stack) wi e to h = come after_ at locals stack h
-    after_fine w after_ (Throws x) wi e to h = throws_fine set is_loaded ver x s None true (f ∷ fs) (refl, (r, b))
+        → Sound set r.placed.c s.heap (gives set is_loaded ver f r.placed) (Enters set r.placed.m (before set is_loaded ver f r.placed) after_) next f.locals w after_ x → Fine set is_loaded ver (after set s f fs next x)
+    after_fine w after_ (Goes at locals stack) wi e to h = (come after_ at locals stack h, st)
+    after_fine w after_ (Throws x) wi e to h = throws_fine set is_loaded ver x s st None true (f ∷ fs) (refl, (r, b))
     after_fine w after_ (LoadsConstant i) wi e to h =
         let e2 : typed set r.placed.c r.placed.m f.at (row.PushConstant i) now ≡ Ok after_ = subst (λ (z : Row). typed set r.placed.c r.placed.m f.at z now ≡ Ok after_) h e in
         let to2 = subst (λ (z : Row). verification.goes_on z ≡ true → to_next after_) h to refl in
@@ -162,12 +192,17 @@ module _ (set : Set) (is_loaded : IsLoaded set) (covered : IsCovered set) (ver :
         let e2 : typed set r.placed.c r.placed.m f.at (row.InvokeStatic i) now ≡ Ok after_ = subst (λ (z : Row). typed set r.placed.c r.placed.m f.at z now ≡ Ok after_) h e in
         let to2 = subst (λ (z : Row). verification.goes_on z ≡ true → to_next after_) h to refl in
         invoked_fine i (members.static_call set r.placed.c i) after_ (wi ∙ h) refl e2 to2
-    after_fine w after_ (Returns values) wi e to h = returned_fine set is_loaded ver s values f fs (gives set is_loaded ver f r.placed) b h
+    after_fine w after_ (GetsStatic i) wi e to h =
+        let e2 : typed set r.placed.c r.placed.m f.at (row.GetStatic i) now ≡ Ok after_ = subst (λ (z : Row). typed set r.placed.c r.placed.m f.at z now ≡ Ok after_) h e in
+        let to2 = subst (λ (z : Row). verification.goes_on z ≡ true → to_next after_) h to refl in
+        gets_fine i (members.field_use set true r.placed.c i) after_ refl e2 to2
+    after_fine w after_ (PutsStatic i v rest) wi e to h = puts_fine i v rest after_ h (come after_ next f.locals rest h.comes)
+    after_fine w after_ (Returns values) wi e to h = returned_fine set is_loaded ver s st values f fs (gives set is_loaded ver f r.placed) b h
     after_fine w after_ _ wi e to h = absurd h
 
-  executed_fine : (s : State) (f : Active) (fs : List Active) (r : Runs set is_loaded ver s.heap f) → Below set is_loaded ver s.heap (gives set is_loaded ver f r.placed) f.starts fs → (o : Option Instr) → o ≡ Some r.start.instr → Fine set is_loaded ver (executed set s f fs o)
-  executed_fine s f fs r b None k = absurd (none_is r.start.instr k)
-  executed_fine s f fs r b (Some j) k =
+  executed_fine : (s : State) (st : Stored set s.heap s.statics) (f : Active) (fs : List Active) (r : Runs set is_loaded ver s.heap f) → Below set is_loaded ver s.heap (gives set is_loaded ver f r.placed) f.starts fs → (o : Option Instr) → o ≡ Some r.start.instr → Fine set is_loaded ver (executed set s f fs o)
+  executed_fine s st f fs r b None k = absurd (none_is r.start.instr k)
+  executed_fine s st f fs r b (Some j) k =
       let i = r.start.instr in
       let w = row_of f.at i in
       let next = f.at + length_of i in
@@ -177,22 +212,22 @@ module _ (set : Set) (is_loaded : IsLoaded set) (covered : IsCovered set) (ver :
       let room : reaches w ≤ length f.locals = omega (arith, within set r.placed.c r.placed.m w now q.0, r.placed.room) in
       let lot = covered f.class f.method f.at i (fetched set is_loaded ver f r.placed r.start) in
       let good = row_sound set is_loaded r.placed.c r.placed.m f.at s.heap (Enters set r.placed.m (before set is_loaded ver f r.placed) p.after) next now p.after f.locals f.stack r.locals r.stack w lot p.jumps p.goes room q.1 in
-      subst (λ (x : Instr). Fine set is_loaded ver (executed set s f fs (Some x))) (sym (some_same j i k)) (after_fine s f fs r b next refl w p.after (effect w next f.locals f.stack) refl q.1 p.goes good)
+      subst (λ (x : Instr). Fine set is_loaded ver (executed set s f fs (Some x))) (sym (some_same j i k)) (after_fine s st f fs r b next refl w p.after (effect w next f.locals f.stack) refl q.1 p.goes good)
 
   -- ---- the call of main
 
-  begun_fine : (s : State) (name : List ℕ) (body : Body) → Runnable set name (codes "()V") body → (class place : ℕ) → body ≡ Coded class place → Fine set is_loaded ver (begun set s body)
-  begun_fine s name _ (IsNative id d nc) class place e = absurd cc
-  begun_fine s name _ (IsCoded c k_ p_ m k h st d nm ab) class place e =
-      entered_fine set is_loaded ver s [] k_ p_ c m k h st ab [] (ap (λ (t : List ℕ). (described t).params) d) [] tt (no_result set is_loaded ver m.descriptor d) (method_at set k_ p_) (method_there set is_loaded ver k_ c p_ m k h)
-  begun_fine s name _ (IsAbstract c k_ p_ m k h nm ab) class place e = absurd cc
+  begun_fine : (s : State) (st : Stored set s.heap s.statics) (name : List ℕ) (body : Body) → Runnable set name (codes "()V") body → (class place : ℕ) → body ≡ Coded class place → Fine set is_loaded ver (begun set s body)
+  begun_fine s st name _ (IsNative id d nc) class place e = absurd cc
+  begun_fine s st name _ (IsCoded c k_ p_ m k h st0 d nm ab) class place e =
+      entered_fine set is_loaded ver s st [] k_ p_ c m k h st0 ab [] (ap (λ (t : List ℕ). (described t).params) d) [] tt (no_result set is_loaded ver m.descriptor d) (method_at set k_ p_) (method_there set is_loaded ver k_ c p_ m k h)
+  begun_fine s st name _ (IsAbstract c k_ p_ m k h nm ab) class place e = absurd cc
 
-  main_fine : (s : State) (o : Option FoundMethod) (f : FoundMethod) → main_method set ≡ o → o ≡ Some f → (class place : ℕ) → f.method.body ≡ Coded class place → s.frames ≡ [] → Runnable set (codes "main") (codes "()V") f.method.body
+  main_fine : (s : State) (st : Stored set s.heap s.statics) (o : Option FoundMethod) (f : FoundMethod) → main_method set ≡ o → o ≡ Some f → (class place : ℕ) → f.method.body ≡ Coded class place → s.frames ≡ [] → Runnable set (codes "main") (codes "()V") f.method.body
       → Fine set is_loaded ver (with s o (λ m. with_started set s [] m.class (λ t. begun set t m.method.body)))
-  main_fine s None f k e class place c n r = absurd (none_is f e)
-  main_fine s (Some g) f k e class place c n r =
+  main_fine s st None f k e class place c n r = absurd (none_is f e)
+  main_fine s st (Some g) f k e class place c n r =
       subst (λ (x : FoundMethod). Fine set is_loaded ver (with s (Some x) (λ m. with_started set s [] m.class (λ t. begun set t m.method.body)))) (sym (some_same g f e))
-      (with_started_fine set is_loaded ver s [] f.class (λ t. begun set t f.method.body) tt (λ started. begun_fine (record s { started = started }) (codes "main") f.method.body r class place c))
+      (with_started_fine set is_loaded ver s st [] f.class (λ t. begun set t f.method.body) tt (λ started. begun_fine (record s { started = started }) st (codes "main") f.method.body r class place c))
 
   main_runs : (o : Option ℕ) (f : FoundMethod) → main_found set o ≡ Some f → Runnable set (codes "main") (codes "()V") f.method.body
   main_runs None f e = absurd (none_is f e)
@@ -202,19 +237,19 @@ module _ (set : Set) (is_loaded : IsLoaded set) (covered : IsCovered set) (ver :
   unfolding main_method
   main_runnable f e = main_runs (class_number set set.main) f e
 
-  begin_fine : (s : State) → s.frames ≡ [] → Fine set is_loaded ver (begin set s)
+  begin_fine : (s : State) (st : Stored set s.heap s.statics) → s.frames ≡ [] → Fine set is_loaded ver (begin set s)
   unfolding begin
-  begin_fine s n =
+  begin_fine s st n =
       let m = is_loaded.main in
-      main_fine s (main_method set) m.found refl m.is m.class m.place m.coded n (main_runnable m.found m.is)
+      main_fine s st (main_method set) m.found refl m.is m.class m.place m.coded n (main_runnable m.found m.is)
 
-  running_fine : (s : State) (fs : List Active) → s.frames ≡ fs → Frames set is_loaded ver s.heap fs → Fine set is_loaded ver (running set s fs)
-  running_fine s [] e h = begin_fine s e
-  running_fine s (f ∷ fs) e h = executed_fine s f fs h.0 h.1 (fetch set f.class f.method f.at) (fetched set is_loaded ver f h.0.placed h.0.start)
+  running_fine : (s : State) (st : Stored set s.heap s.statics) (fs : List Active) → s.frames ≡ fs → Frames set is_loaded ver s.heap fs → Fine set is_loaded ver (running set s fs)
+  running_fine s st [] e h = begin_fine s st e
+  running_fine s st (f ∷ fs) e h = executed_fine s st f fs h.0 h.1 (fetch set f.class f.method f.at) (fetched set is_loaded ver f h.0.placed h.0.start)
 
-  step_fine : (s : State) → Frames set is_loaded ver s.heap s.frames → Fine set is_loaded ver (step set s)
+  step_fine : (s : State) → Frames set is_loaded ver s.heap s.frames × Stored set s.heap s.statics → Fine set is_loaded ver (step set s)
   unfolding step
-  step_fine s h = running_fine s s.frames refl h
+  step_fine s h = running_fine s h.1 s.frames refl h.0
 
   runs_fine : (n : ℕ) (x : Next) → Fine set is_loaded ver x → Fine set is_loaded ver (on_from set n x)
   runs_fine zero x h = h
@@ -223,4 +258,4 @@ module _ (set : Set) (is_loaded : IsLoaded set) (covered : IsCovered set) (ver :
 
 pub never_stuck : VerifiedIsNeverStuck
 never_stuck set is_loaded covered ver input n out e =
-    subst (Fine set is_loaded ver) e (runs_fine set is_loaded covered ver n (Going (first set input)) tt)
+    subst (Fine set is_loaded ver) e (runs_fine set is_loaded covered ver n (Going (first set input)) (tt, first_stored set is_loaded))

@@ -24,6 +24,7 @@ use Rattle.class_soundness.proofs.Tests.{both_true}
 use Rattle.class_soundness.proofs.Found.{Finds, finds}
 use Rattle.class_soundness.proofs.Chains.{thrown_no_text, or_right}
 use Rattle.class_soundness.proofs.Fits.{Fits, Fits-assign, grows_by}
+use Rattle.class_soundness.proofs.Stores.{Stored, stored_grows}
 use Rattle.class_soundness.proofs.Frames.{Fine, Below, Runs, Placed, Starts, starting_at, before, gives, parts, below_grow, method_there}
 
 each_at : (P : Handler → Type 0) (hs : List Handler) (k : ℕ) (h : Handler) → EachRow P hs → slice_get hs k ≡ Some h → P h
@@ -125,31 +126,31 @@ module _ (set : Set) (loaded : IsLoaded set) (ver : Verifies set) where
   abbrev passed_on : State → ℕ → ℕ → List Value → Active → List Active → Option Handler → Next
   passed_on s r class fields f fs o = elim o [ Some h ↦ goes_on s f fs h.at (value.Ref r ∷ []) | None ↦ unwound set s r class fields fs ]
 
-  at_frame : (s : State) (r class : ℕ) (fields : List Value) (f : Active) (fs : List Active) (held : Held s.heap f) → Below set loaded ver s.heap (gives set loaded ver f held.placed) f.starts fs → Fine set loaded ver (unwound set s r class fields fs)
+  at_frame : (s : State) (st : Stored set s.heap s.statics) (r class : ℕ) (fields : List Value) (f : Active) (fs : List Active) (held : Held s.heap f) → Below set loaded ver s.heap (gives set loaded ver f held.placed) f.starts fs → Fine set loaded ver (unwound set s r class fields fs)
       → (o : Option Handler) → find (catches set (class_pool set f.class) class f.at) held.placed.m.handlers ≡ o → Fine set loaded ver (passed_on s r class fields f fs o)
   unfolding comes_there
-  at_frame s r class fields f fs held b more None e = more
-  at_frame s r class fields f fs held b more (Some h) e =
-      (comes_there s.heap f held class r h (handles s.heap f held class r h (finds (catches set (class_pool set f.class) class f.at) held.placed.m.handlers h e)), b)
+  at_frame s st r class fields f fs held b more None e = more
+  at_frame s st r class fields f fs held b more (Some h) e =
+      ((comes_there s.heap f held class r h (handles s.heap f held class r h (finds (catches set (class_pool set f.class) class f.at) held.placed.m.handlers h e)), b), st)
 
-  through_frame : (s : State) (r class : ℕ) (fields : List Value) (f : Active) (fs : List Active) (held : Held s.heap f) → Below set loaded ver s.heap (gives set loaded ver f held.placed) f.starts fs → Fine set loaded ver (unwound set s r class fields fs)
+  through_frame : (s : State) (st : Stored set s.heap s.statics) (r class : ℕ) (fields : List Value) (f : Active) (fs : List Active) (held : Held s.heap f) → Below set loaded ver s.heap (gives set loaded ver f held.placed) f.starts fs → Fine set loaded ver (unwound set s r class fields fs)
       → Fine set loaded ver (passed_on s r class fields f fs (handler set class f))
-  through_frame s r class fields f fs held b more =
+  through_frame s st r class fields f fs held b more =
       let there = method_there set loaded ver f.class held.placed.c f.method held.placed.m held.placed.class_is held.placed.method_is in
       subst (λ (o : Option Method). Fine set loaded ver (passed_on s r class fields f fs (find (catches set (class_pool set f.class) class f.at) (handlers_of o)))) (sym there)
-      (at_frame s r class fields f fs held b more (find (catches set (class_pool set f.class) class f.at) held.placed.m.handlers) refl)
+      (at_frame s st r class fields f fs held b more (find (catches set (class_pool set f.class) class f.at) held.placed.m.handlers) refl)
 
-  unwinds : (s : State) (r class : ℕ) (fields : List Value) (result : Option VType) (first : Bool) (fs : List Active) → Below set loaded ver s.heap result first fs → Fine set loaded ver (unwound set s r class fields fs)
-  unwinds s r class fields result first [] b = tt
-  unwinds s r class fields result true (f ∷ fs) b =
+  unwinds : (s : State) (st : Stored set s.heap s.statics) (r class : ℕ) (fields : List Value) (result : Option VType) (first : Bool) (fs : List Active) → Below set loaded ver s.heap result first fs → Fine set loaded ver (unwound set s r class fields fs)
+  unwinds s st r class fields result first [] b = tt
+  unwinds s st r class fields result true (f ∷ fs) b =
       let held : Held s.heap f = record { placed = b.1.0.placed; start = b.1.0.start; locals = b.1.0.locals } in
-      through_frame s r class fields f fs held b.1.1 (unwinds s r class fields (gives set loaded ver f b.1.0.placed) f.starts fs b.1.1)
-  unwinds s r class fields result false (f ∷ fs) b =
+      through_frame s st r class fields f fs held b.1.1 (unwinds s st r class fields (gives set loaded ver f b.1.0.placed) f.starts fs b.1.1)
+  unwinds s st r class fields result false (f ∷ fs) b =
       let held : Held s.heap f = record { placed = b.0.placed; start = b.0.start; locals = b.0.held } in
-      through_frame s r class fields f fs held b.1 (unwinds s r class fields (gives set loaded ver f b.0.placed) f.starts fs b.1)
+      through_frame s st r class fields f fs held b.1 (unwinds s st r class fields (gives set loaded ver f b.0.placed) f.starts fs b.1)
 
   -- an exception of the machine's own is thrown through frames below one that gives this result, or that are to go on
-  pub throws_fine : (x : BuiltIn) (s : State) (result : Option VType) (first : Bool) (fs : List Active) → Below set loaded ver s.heap result first fs → Fine set loaded ver (thrown set x s fs)
-  throws_fine x s result first fs b =
-      unwinds (with_exception x s) (exception_reference x s) (exception_number x) (exception_fields (length s.heap) (message x)) result first fs
+  pub throws_fine : (x : BuiltIn) (s : State) (st : Stored set s.heap s.statics) (result : Option VType) (first : Bool) (fs : List Active) → Below set loaded ver s.heap result first fs → Fine set loaded ver (thrown set x s fs)
+  throws_fine x s st result first fs b =
+      unwinds (with_exception x s) (stored_grows set s.heap (s.heap ++ exception_objects (length s.heap) (exception_number x) (message x)) (grows_by s.heap (exception_objects (length s.heap) (exception_number x) (message x))) s.statics st) (exception_reference x s) (exception_number x) (exception_fields (length s.heap) (message x)) result first fs
       (below_grow set loaded ver s.heap (s.heap ++ exception_objects (length s.heap) (exception_number x) (message x)) (grows_by s.heap (exception_objects (length s.heap) (exception_number x) (message x))) result first fs b)

@@ -39,12 +39,14 @@ pub record IsLoaded (set : Set) : Type 0 where
   pub interfaces : (class : ℕ) (c : ClassFile) → slice_get set.classes class ≡ Some c → is_interface_flag c.flags ≡ true → is_text c.super_name object_name ≡ true
   pub heights : Heights set
 
--- the rows that the law is of: those of the first lot, and a few more that work on the frame alone
+-- the rows that the law is of: those of the first lot, a few more that work on the frame alone, and those of static fields
 abbrev pub is_covered : Row → Bool
 is_covered row.Nop = true
 is_covered row.DupX1 = true
 is_covered row.Dup2 = true
 is_covered (row.Increment i n) = true
+is_covered (row.GetStatic i) = true
+is_covered (row.PutStatic i) = true
 is_covered r = in_first_lot r
 
 -- each instruction of the set does what one of these rows does

@@ -3,7 +3,7 @@
 
 ghost use Rattle.class_soundness.specs.Soundness.{AssignabilityIsTransitive, FirstLotIsCovered, FlatSetsHaveHeights, LawIsOfSomeSet, VerifiedIsNeverStuck};
 
-/// A loaded set that verifies and whose instructions are covered never gets the machine stuck, on any input (JVM Specification 4.10).
+/// A loaded set that verifies, all of whose instructions are covered, never gets the machine stuck, on any input.
 pub fn verified_is_never_stuck()
     ensures { VerifiedIsNeverStuck }
 {}

@@ -2,10 +2,10 @@
 use Rattle.std.proofs.Common.{◌≡◌, Bool, true, false, ◌||◌, List, [], ◌∷◌, refl, sym}
 use Rattle.grammars.specs.Grammar.{Test, next, Part, nothing, one, row, both, choose, Derives, d_nothing, d_one, d_row, d_both, d_left, d_right, Reads, r_nothing, r_one, r_row, r_both, r_left, r_right}
 use Rattle.grammars.specs.Tables.{begins, IsEmptyTable, IsBeginTable}
-use Rattle.grammars.specs.Fair.{o_maybe, Edge, e_maybe, e_left, e_right, e_row, e_second, e_first, OfferedBy, Fair, f_one, f_row, f_both, f_maybe, f_choose, IsFair}
+use Rattle.grammars.specs.Fair.{o_maybe, Edge, e_maybe, e_left, e_right, e_row, e_second, e_first, OfferedBy, Fair, f_one, f_row, f_both, f_choose, IsFair}
 use Rattle.grammars.specs.Example.{Word, if_, else_, name, is_if, is_else, is_name, Row, statement, else_part, grammar, a_name, with_else, without_else, words, ElseIsInner}
 use Rattle.grammars.proofs.Readings.{never, derives}
-use Rattle.grammars.proofs.Starts.{picks_next, leaves_next}
+use Rattle.grammars.proofs.Starts.{picks_next, leaves_next, fair_maybe}
 use Rattle.grammars.proofs.Order.{preferred}
 
 abbrev no_row : Row → Bool
@@ -27,13 +27,14 @@ data IsElsePart : Bool → Test Word → Part Row Word → Type 0 where
   it_is : IsElsePart false (next is_else) else_part
 
 last : {c : Bool} {g : Test Word} {q : Part Row Word} → Edge grammar no_row c (row statement) g q → IsElsePart c g q
-last (e_row {r = statement} (e_left (e_second (e_second e_maybe)))) = it_is
+last (e_row {r = statement} (e_left (e_second (e_second (e_maybe z))))) = it_is
 last (e_row {r = statement} (e_left (e_second (e_second (e_left (e_second i)))))) = last i
 last (e_row {r = statement} (e_left (e_second (e_second (e_left (e_first z i)))))) = never z refl
 last (e_row {r = statement} (e_left (e_second (e_second (e_right i))))) = elim i [ ]
 last (e_row {r = statement} (e_left (e_second (e_first z i)))) = last i
 last (e_row {r = statement} (e_left (e_first z i))) = elim i [ ]
 last (e_row {r = statement} (e_right i)) = elim i [ ]
+last (e_row {r = statement} (e_maybe z)) = never z refl
 
 offered : {c : Bool} {g : Test Word} {q : Part Row Word} → IsElsePart c g q → OfferedBy grammar no_row c (choose (next is_else) else_part nothing) g q
 offered it_is K o = o_maybe (o refl)
@@ -62,8 +63,8 @@ is_fair = record { empties = empties; fair = fair }
     fair : (n : Row) → Fair grammar no_row (grammar n)
     fair statement =
         f_choose
-        (f_both f_one (f_both f_row (f_maybe (f_both f_one f_row (λ c g q i. no_edge i)) (picks_next grammar no_row begin empties starts refl else_is_picked)) (λ c g q i. offered (last i))) (λ c g q i. no_edge i))
-        f_one (picks_next grammar no_row begin empties starts refl if_is_picked) refl (leaves_next grammar no_row begin empties starts name_is_no_if)
+        (f_both f_one (f_both f_row (fair_maybe grammar no_row (f_both f_one f_row (λ c g q i. no_edge i)) (picks_next grammar no_row begin empties starts refl else_is_picked)) (λ c g q i. offered (last i))) (λ c g q i. no_edge i))
+        f_one (picks_next grammar no_row begin empties starts refl if_is_picked) (leaves_next grammar no_row begin empties starts name_is_no_if)
 
 name_read : {r : List Word} → Reads grammar (row statement) (name ∷ r) a_name r
 name_read = r_row (r_right refl (r_one refl))

@@ -5,3 +5,4 @@ pub mod Normal
 pub mod Order
 pub mod Starts
 pub mod Example
+pub mod Runs

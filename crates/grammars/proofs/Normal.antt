@@ -2,7 +2,7 @@
 use Rattle.std.proofs.Common.{◌≡◌, ℕ, zero, suc, ◌+◌, ◌<◌, ◌≤◌, Bool, true, false, ◌&&◌, ◌||◌, List, [], ◌∷◌, ◌++◌, length, ◌⊎◌, inl, inr, refl, subst, arith}
 use Rattle.grammars.specs.Grammar.{Test, Part, nothing, one, row, both, choose, many, guard, Cst, none, leaf, node, pair, left, right, first, Derives, d_nothing, d_one, d_row, d_both, d_left, d_right, d_more, d_done, d_guard, Reads, r_nothing, r_one, r_row, r_both, r_left, r_right, r_more, r_done, r_guard, Stuck}
 use Rattle.grammars.specs.Tables.{is_empty, IsEmptyTable, Leaves, Covers}
-use Rattle.grammars.specs.Fair.{Offers, o_end, o_apart, o_many, o_maybe, Edge, e_many, e_inside, e_maybe, e_left, e_right, e_guard, e_row, e_second, e_first, Fair, f_nothing, f_row, f_guard, f_both, f_maybe, f_choose, f_many}
+use Rattle.grammars.specs.Fair.{Offers, o_end, o_apart, o_many, o_maybe, Edge, e_many, e_inside, e_maybe, e_left, e_right, e_guard, e_row, e_second, e_first, Fair, f_row, f_guard, f_both, f_choose, f_many}
 use Rattle.grammars.proofs.Readings.{never, derives}
 use Rattle.grammars.proofs.Progress.{shorter}
 
@@ -45,6 +45,7 @@ module _ {R A : Type 0} (G : R → Part R A) (empty : R → Bool) (empties : IsE
     pub seg : (K' : List (Part R A)) (m : ℕ) → All m K' rest → All (n1 + m) (k ∷ K') ts
     pub after : All n2 K rest
     pub took : Took k n1 ts rest
+    pub some : 0 < n1
     pub tree : Cst A
     pub derived : Derives G k ts tree rest
 
@@ -81,29 +82,29 @@ module _ {R A : Type 0} (G : R → Part R A) (empty : R → Bool) (empties : IsE
   split zero zero le d = elim d [ ]
   split (suc fuel) zero le d = elim d [ ]
   split zero (suc n) le d = absurd (omega arith)
-  split (suc fuel) (suc n) le (a_nothing {ts = ts} d) = record { rest = ts; n1 = 1; n2 = n; sum = omega arith; seg = λ K m e. at_size (omega arith) (a_nothing e); after = d; took = no_token refl (λ us K m e. at_size (omega arith) (a_nothing e)); tree = none; derived = d_nothing }
-  split (suc fuel) (suc n) le (a_one {ts = ts} h d) = record { rest = ts; n1 = 1; n2 = n; sum = omega arith; seg = λ K m e. at_size (omega arith) (a_one h e); after = d; took = some_tokens (omega arith); tree = leaf _; derived = d_one h }
+  split (suc fuel) (suc n) le (a_nothing {ts = ts} d) = record { rest = ts; n1 = 1; n2 = n; sum = omega arith; seg = λ K m e. at_size (omega arith) (a_nothing e); after = d; some = omega arith; took = no_token refl (λ us K m e. at_size (omega arith) (a_nothing e)); tree = none; derived = d_nothing }
+  split (suc fuel) (suc n) le (a_one {ts = ts} h d) = record { rest = ts; n1 = 1; n2 = n; sum = omega arith; seg = λ K m e. at_size (omega arith) (a_one h e); after = d; some = omega arith; took = some_tokens (omega arith); tree = leaf _; derived = d_one h }
   split (suc fuel) (suc n) le (a_row d) =
       let s = split fuel n (omega arith) d in
-      record { rest = s.rest; n1 = suc s.n1; n2 = s.n2; sum = omega (arith, s.sum); seg = λ K m e. at_size (omega arith) (a_row (s.seg K m e)); after = s.after; took = took_row s.took; tree = node s.tree; derived = d_row s.derived }
+      record { rest = s.rest; n1 = suc s.n1; n2 = s.n2; sum = omega (arith, s.sum); seg = λ K m e. at_size (omega arith) (a_row (s.seg K m e)); after = s.after; some = omega arith; took = took_row s.took; tree = node s.tree; derived = d_row s.derived }
   split (suc fuel) (suc n) le (a_both d) =
       let s = split fuel n (omega arith) d in
       let u = split fuel s.n2 (omega (arith, s.sum)) s.after in
-      record { rest = u.rest; n1 = suc (s.n1 + u.n1); n2 = u.n2; sum = omega (arith, s.sum, u.sum); seg = λ K m e. at_size (omega arith) (a_both (s.seg _ _ (u.seg K m e))); after = u.after; took = took_both (shorter G u.derived) s.took u.took; tree = pair s.tree u.tree; derived = d_both s.derived u.derived }
+      record { rest = u.rest; n1 = suc (s.n1 + u.n1); n2 = u.n2; sum = omega (arith, s.sum, u.sum); seg = λ K m e. at_size (omega arith) (a_both (s.seg _ _ (u.seg K m e))); after = u.after; some = omega arith; took = took_both (shorter G u.derived) s.took u.took; tree = pair s.tree u.tree; derived = d_both s.derived u.derived }
   split (suc fuel) (suc n) le (a_left d) =
       let s = split fuel n (omega arith) d in
-      record { rest = s.rest; n1 = suc s.n1; n2 = s.n2; sum = omega (arith, s.sum); seg = λ K m e. at_size (omega arith) (a_left (s.seg K m e)); after = s.after; took = took_left s.took; tree = left s.tree; derived = d_left s.derived }
+      record { rest = s.rest; n1 = suc s.n1; n2 = s.n2; sum = omega (arith, s.sum); seg = λ K m e. at_size (omega arith) (a_left (s.seg K m e)); after = s.after; some = omega arith; took = took_left s.took; tree = left s.tree; derived = d_left s.derived }
   split (suc fuel) (suc n) le (a_right d) =
       let s = split fuel n (omega arith) d in
-      record { rest = s.rest; n1 = suc s.n1; n2 = s.n2; sum = omega (arith, s.sum); seg = λ K m e. at_size (omega arith) (a_right (s.seg K m e)); after = s.after; took = took_right s.took; tree = right s.tree; derived = d_right s.derived }
+      record { rest = s.rest; n1 = suc s.n1; n2 = s.n2; sum = omega (arith, s.sum); seg = λ K m e. at_size (omega arith) (a_right (s.seg K m e)); after = s.after; some = omega arith; took = took_right s.took; tree = right s.tree; derived = d_right s.derived }
   split (suc fuel) (suc n) le (a_more d) =
       let s = split fuel n (omega arith) d in
       let u = split fuel s.n2 (omega (arith, s.sum)) s.after in
-      record { rest = u.rest; n1 = suc (s.n1 + u.n1); n2 = u.n2; sum = omega (arith, s.sum, u.sum); seg = λ K m e. at_size (omega arith) (a_more (s.seg _ _ (u.seg K m e))); after = u.after; took = took_turn (shorter G u.derived) s.took u.took; tree = pair s.tree u.tree; derived = d_more s.derived u.derived }
+      record { rest = u.rest; n1 = suc (s.n1 + u.n1); n2 = u.n2; sum = omega (arith, s.sum, u.sum); seg = λ K m e. at_size (omega arith) (a_more (s.seg _ _ (u.seg K m e))); after = u.after; some = omega arith; took = took_turn (shorter G u.derived) s.took u.took; tree = pair s.tree u.tree; derived = d_more s.derived u.derived }
   split (suc fuel) (suc n) le (a_guard h z c d) =
       let s = split fuel n (omega arith) d in
-      record { rest = s.rest; n1 = suc s.n1; n2 = s.n2; sum = omega (arith, s.sum); seg = λ K m e. at_size (omega arith) (a_guard h z c (s.seg K m e)); after = s.after; took = took_guard z s.took; tree = node s.tree; derived = d_guard h s.derived (c.covers _ _ _ h s.derived) }
-  split (suc fuel) (suc n) le (a_done {ts = ts} d) = record { rest = ts; n1 = 1; n2 = n; sum = omega arith; seg = λ K m e. at_size (omega arith) (a_done e); after = d; took = no_token refl (λ us K m e. at_size (omega arith) (a_done e)); tree = none; derived = d_done }
+      record { rest = s.rest; n1 = suc s.n1; n2 = s.n2; sum = omega (arith, s.sum); seg = λ K m e. at_size (omega arith) (a_guard h z c (s.seg K m e)); after = s.after; some = omega arith; took = took_guard z s.took; tree = node s.tree; derived = d_guard h s.derived (c.covers _ _ _ h s.derived) }
+  split (suc fuel) (suc n) le (a_done {ts = ts} d) = record { rest = ts; n1 = 1; n2 = n; sum = omega arith; seg = λ K m e. at_size (omega arith) (a_done e); after = d; some = omega arith; took = no_token refl (λ us K m e. at_size (omega arith) (a_done e)); tree = none; derived = d_done }
 
   abbrev low : Bool → ℕ
   low true = 1
@@ -177,23 +178,26 @@ module _ {R A : Type 0} (G : R → Part R A) (empty : R → Bool) (empties : IsE
   decide true = inl refl
   decide false = inr refl
 
-  no_edge : {c : Bool} {g : Test A} {q : Part R A} → Edge G empty c nothing g q → ⊥
-  no_edge i = elim i [ ]
+  -- what becomes of a choice that took its second part: the test fails, or the first part can be taken instead
+  data Choice (f : Test A) (a : Part R A) (K : List (Part R A)) (n : ℕ) (ts : List A) : Type 0 where
+    stay : f.holds ts ≡ false → Choice f a K n ts
+    switch : f.holds ts ≡ true → (m : ℕ) → m ≤ n → All m (a ∷ K) ts → Choice f a K n ts
 
-  pub record Behind (n : ℕ) (K : List (Part R A)) (ts : List A) : Type 0 where
-    pub m : ℕ
-    pub size : n ≡ suc m
-    pub after : All m K ts
+  choice_at : {f : Test A} {a : Part R A} {K : List (Part R A)} {n n1 n2 : ℕ} {t : A} {us : List A} (b : Bool) → f.holds (t ∷ us) ≡ b
+      → All n2 K (t ∷ us) → 0 < n1 → n1 + n2 ≡ n → Offers G empty f a false K → Choice f a K n (t ∷ us)
+  choice_at false h after some sum o = stay h
+  choice_at {K = K} true h after some sum o =
+      let w = steal o after h in switch h (w.n1 + w.n2) (omega (arith, w.bound, some, sum)) (w.seg K w.n2 w.after)
 
-  behind : {n : ℕ} {K : List (Part R A)} {ts : List A} → All n (nothing ∷ K) ts → Behind n K ts
-  behind (a_nothing {n = n} d) = record { m = n; size = refl; after = d }
+  choice_of : {f : Test A} {a : Part R A} {K : List (Part R A)} {n n1 n2 : ℕ} (ts : List A)
+      → All n2 K ts → 0 < n1 → n1 + n2 ≡ n → Offers G empty f a false K → Choice f a K n ts
+  choice_of {f = f} [] after some sum o = stay f.ends
+  choice_of {f = f} (t ∷ us) after some sum o = choice_at (f.holds (t ∷ us)) refl after some sum o
 
-  no_holds : (f : Test A) → f.holds [] ≡ true → ⊥
-  no_holds f h = never h f.ends
-
-  took_some : {k : Part R A} {n : ℕ} {ts rest : List A} → Took k n ts rest → is_empty empty k ≡ false → length rest < length ts
-  took_some (no_token e f) z = never e z
-  took_some (some_tokens b) z = b
+  choice : {f : Test A} {a b : Part R A} {K : List (Part R A)} {n n1 n2 : ℕ} {ts rest : List A} {x : Cst A} → Took b n1 ts rest → Derives G b ts x rest → Leaves G f b
+      → All n2 K rest → 0 < n1 → n1 + n2 ≡ n → (is_empty empty b ≡ true → Offers G empty f a false K) → Choice f a K n ts
+  choice {ts = ts} (no_token z go) d w after some sum o = choice_of ts after some sum (o z)
+  choice (some_tokens p) d w after some sum o = stay (w.leaves _ _ _ d p)
 
   module _ (fair : (r : R) → Fair G empty (G r)) where
     pub normal : (fuel n : ℕ) {K : List (Part R A)} {ts : List A} → n ≤ fuel → All n K ts → Good K → ReadsAll K ts
@@ -206,21 +210,13 @@ module _ {R A : Type 0} (G : R → Part R A) (empty : R → Bool) (empties : IsE
         close_guard h c (normal fuel n (omega arith) d (g_cons fa (λ c o q i. e c o q (e_guard i)) g))
     normal (suc fuel) (suc n) le (a_both {K = K} d) (g_cons (f_both fa fb by) e g) =
         close_both (normal fuel n (omega arith) d (g_cons fa (λ c o q i. by c o q i K (λ z. e c o q (e_first z i))) (g_cons fb (λ c o q i. e c o q (e_second i)) g)))
-    normal (suc fuel) (suc n) le (a_left d) (g_cons (f_maybe fa u) e g) =
+    normal (suc fuel) (suc n) le (a_left d) (g_cons (f_choose fa fb u w) e g) =
         close_left (u.picks _ _ _ (split n n (omega arith) d).derived) (normal fuel n (omega arith) d (g_cons fa (λ c o q i. e c o q (e_left i)) g))
-    normal (suc fuel) (suc n) le (a_left d) (g_cons (f_choose fa fb u zb w) e g) =
-        close_left (u.picks _ _ _ (split n n (omega arith) d).derived) (normal fuel n (omega arith) d (g_cons fa (λ c o q i. e c o q (e_left i)) g))
-    normal (suc fuel) (suc n) le (a_right d) (g_cons (f_choose fa fb u zb w) e g) =
+    normal (suc fuel) (suc n) {ts = ts} le (a_right {f = f} {a = a} {b = b} {K = K} d) (g_cons (f_choose fa fb u w) e g) =
         let s = split n n (omega arith) d in
-        close_right (w.leaves _ _ _ s.derived (took_some s.took zb)) (normal fuel n (omega arith) d (g_cons fb (λ c o q i. e c o q (e_right i)) g))
-    normal (suc fuel) (suc n) {ts = []} le (a_right {f = f} d) (g_cons (f_maybe fa u) e g) =
-        close_right f.ends (normal fuel n (omega arith) d (g_cons f_nothing (λ c o q i. absurd (no_edge i)) g))
-    normal (suc fuel) (suc n) {ts = t ∷ us} le (a_right {f = f} {a = a} {K = K} d) (g_cons (f_maybe fa u) e g) =
-        let b = behind d in
-        elim (decide (f.holds (t ∷ us))) as (λ _. ReadsAll (choose f a nothing ∷ K) (t ∷ us)) [
-          | inl h ↦ (let w = steal (e false f a e_maybe) b.after h in
-              close_left h (normal fuel (w.n1 + w.n2) (omega (arith, w.bound, b.size)) (w.seg K w.n2 w.after) (g_cons fa (λ c o q i. e c o q (e_left i)) g)))
-          | inr h ↦ close_right h (normal fuel n (omega arith) d (g_cons f_nothing (λ c o q i. absurd (no_edge i)) g))
+        elim (choice s.took s.derived w s.after s.some s.sum (λ z. e false f a (e_maybe z))) as (λ _. ReadsAll (choose f a b ∷ K) ts) [
+          | stay h ↦ close_right h (normal fuel n (omega arith) d (g_cons fb (λ c o q i. e c o q (e_right i)) g))
+          | switch h m bound steps ↦ close_left h (normal fuel m (omega (arith, bound)) steps (g_cons fa (λ c o q i. e c o q (e_left i)) g))
         ]
     normal (suc fuel) (suc n) le (a_more {K = K} d) (g_cons (f_many fp u by) e g) =
         close_turn (u.picks _ _ _ (split n n (omega arith) d).derived)
@@ -244,10 +240,8 @@ module _ {R A : Type 0} (G : R → Part R A) (empty : R → Bool) (empties : IsE
     opened (d_one h) f k = record { size = _; steps = a_one h k }
     opened (d_row {n = n} d) f k = record { size = _; steps = a_row (opened d (fair n) k).steps }
     opened (d_both d e) (f_both fa fb by) k = record { size = _; steps = a_both (opened d fa (opened e fb k).steps).steps }
-    opened (d_left d) (f_maybe fa u) k = record { size = _; steps = a_left (opened d fa k).steps }
-    opened (d_left d) (f_choose fa fb u z w) k = record { size = _; steps = a_left (opened d fa k).steps }
-    opened (d_right d) (f_maybe fa u) k = record { size = _; steps = a_right (opened d f_nothing k).steps }
-    opened (d_right d) (f_choose fa fb u z w) k = record { size = _; steps = a_right (opened d fb k).steps }
+    opened (d_left d) (f_choose fa fb u w) k = record { size = _; steps = a_left (opened d fa k).steps }
+    opened (d_right d) (f_choose fa fb u w) k = record { size = _; steps = a_right (opened d fb k).steps }
     opened (d_more d e) (f_many fp u by) k = record { size = _; steps = a_more (opened d fp (opened e (f_many fp u by) k).steps).steps }
     opened (d_guard h d p) (f_guard fa z c) k = record { size = _; steps = a_guard h z c (opened d fa k).steps }
     opened d_done f k = record { size = _; steps = a_done k }

@@ -1,12 +1,11 @@
 -- The reading is the derivation that counts; a list has one fault at most.
 use Rattle.std.proofs.Common.{◌≡◌, ℕ, zero, suc, ◌+◌, ◌<◌, Bool, List, [], ◌∷◌, ◌++◌, length, length-append, ◌⊎◌, inl, inr, refl, sym, ap, subst, ◌∙◌, arith, append_assoc}
-use Rattle.grammars.specs.Grammar.{Test, Part, row, Cst, none, node, pair, left, right, first, Derives, d_nothing, d_one, d_row, d_both, d_left, d_right, d_more, d_done, d_guard, Reads, r_nothing, r_one, r_row, r_both, r_left, r_right, r_more, r_done, r_guard, Stuck}
+use Rattle.grammars.specs.Grammar.{Test, Part, row, Cst, node, pair, left, right, first, Derives, d_nothing, d_one, d_row, d_both, d_left, d_right, d_more, d_done, d_guard, Reads, r_nothing, r_one, r_row, r_both, r_left, r_right, r_more, r_done, r_guard, Stuck}
 use Rattle.grammars.specs.Tables.{Picks}
-use Rattle.grammars.specs.Fair.{Fair, f_row, f_guard, f_both, f_maybe, f_choose, f_many, IsFair}
+use Rattle.grammars.specs.Fair.{Fair, f_row, f_guard, f_both, f_choose, f_many, IsFair}
 use Rattle.grammars.specs.Order.{count, Prefers, p_turn, p_taken, p_node, p_left, p_right, p_first, p_second, IsFault}
 use Rattle.grammars.proofs.Readings.{never, derives, along_d}
 use Rattle.grammars.proofs.Refusals.{longer}
-use Rattle.grammars.proofs.Progress.{progress}
 use Rattle.grammars.proofs.Normal.{refused}
 
 module _ {R A : Type 0} (G : R → Part R A) where
@@ -42,6 +41,10 @@ module _ {R A : Type 0} (G : R → Part R A) where
   pub takes : {f : Test A} {a : Part R A} {ts r : List A} {x : Cst A} → Picks G f a → Derives G a ts x r → 0 < count x
   takes {f = f} {x = x} u d = positive (count x) (λ z. never (u.picks [] [] x (emptied d z)) f.ends)
 
+zero_count : (n : ℕ) → (0 < n → ⊥) → n ≡ 0
+zero_count zero h = refl
+zero_count (suc n) h = absurd (h (omega arith))
+
 module _ {R A : Type 0} (G : R → Part R A) (empty : R → Bool) (k : IsFair G empty) where
   pub record Alike (x y : Cst A) (r r' : List A) : Type 0 where
     pub tree : x ≡ y
@@ -64,14 +67,10 @@ module _ {R A : Type 0} (G : R → Part R A) (empty : R → Bool) (k : IsFair G 
   prefers (r_row {n = n} d) (d_row e) f = under node (λ x y p. p_node p) (prefers d e (k.fair n))
   prefers (r_both d1 d2) (d_both e1 e2) (f_both fa fb by) =
       elim (prefers d1 e1 fa) [ inl u ↦ second u.tree (prefers d2 (along_d G (sym u.rest) e2) fb) | inr p ↦ inr (p_first p) ]
-  prefers (r_left h d) (d_left e) (f_maybe fa u) = under left (λ x y p. p_left p) (prefers d e fa)
-  prefers (r_left h d) (d_left e) (f_choose fa fb u z w) = under left (λ x y p. p_left p) (prefers d e fa)
-  prefers (r_left h d) (d_right d_nothing) (f_maybe fa u) = inr (p_taken (takes G u (derives G d)))
-  prefers (r_left h d) (d_right e) (f_choose fa fb u z w) = never h (w.leaves _ _ _ e (progress G empty k.empties e z))
-  prefers (r_right h d) (d_left e) (f_maybe fa u) = never (u.picks _ _ _ e) h
-  prefers (r_right h d) (d_left e) (f_choose fa fb u z w) = never (u.picks _ _ _ e) h
-  prefers (r_right h r_nothing) (d_right d_nothing) (f_maybe fa u) = inl (record { tree = refl; rest = refl })
-  prefers (r_right h d) (d_right e) (f_choose fa fb u z w) = under right (λ x y p. p_right p) (prefers d e fb)
+  prefers (r_left h d) (d_left e) (f_choose fa fb u w) = under left (λ x y p. p_left p) (prefers d e fa)
+  prefers (r_left h d) (d_right {x = y} e) (f_choose fa fb u w) = inr (p_taken (takes G u (derives G d)) (zero_count (count y) (λ l. never h (w.leaves _ _ _ e (omega (arith, l, counted G e))))))
+  prefers (r_right h d) (d_left e) (f_choose fa fb u w) = never (u.picks _ _ _ e) h
+  prefers (r_right h d) (d_right e) (f_choose fa fb u w) = under right (λ x y p. p_right p) (prefers d e fb)
   prefers (r_more h d1 d2) (d_more e1 e2) (f_many fp u by) =
       elim (prefers d1 e1 fp) [ inl v ↦ second v.tree (prefers d2 (along_d G (sym v.rest) e2) (f_many fp u by)) | inr p ↦ inr (p_first p) ]
   prefers (r_more h d1 d2) d_done (f_many fp u by) = inr (p_turn (takes G u (derives G d1)))
@@ -94,7 +93,7 @@ module _ {A : Type 0} where
   -- no derivation comes before itself
   pub differ : {x y : Cst A} → Prefers x y → x ≡ y → ⊥
   differ (p_turn h) e = cc
-  differ (p_taken h) e = cc
+  differ (p_taken h z) e = cc
   differ (p_node {x = x} {y = y} p) e = let i : x ≡ y = cc in differ p i
   differ (p_left {x = x} {y = y} p) e = let i : x ≡ y = cc in differ p i
   differ (p_right {x = x} {y = y} p) e = let i : x ≡ y = cc in differ p i
@@ -102,23 +101,18 @@ module _ {A : Type 0} where
   differ (p_second {y = y} {y' = y'} p) e = let i : y ≡ y' = cc in differ p i
 
   -- of two derivations one alone comes before the other
-  before_none : {u v : Cst A} → Prefers u v → u ≡ none → ⊥
-  before_none (p_turn h) e = cc
-  before_none (p_taken h) e = cc
-  before_none (p_node p) e = cc
-  before_none (p_left p) e = cc
-  before_none (p_right p) e = cc
-  before_none (p_first p) e = cc
-  before_none (p_second p) e = cc
+  -- what comes before another takes tokens
+  takes_some : {x y : Cst A} → Prefers x y → 0 < count x
+  takes_some (p_turn h) = omega (arith, h)
+  takes_some (p_taken h z) = h
+  takes_some (p_node p) = takes_some p
+  takes_some (p_left p) = takes_some p
+  takes_some (p_right p) = takes_some p
+  takes_some (p_first p) = omega (arith, takes_some p)
+  takes_some (p_second p) = omega (arith, takes_some p)
 
-  before_untaken : {u v : Cst A} → Prefers u v → u ≡ right none → ⊥
-  before_untaken (p_turn h) e = cc
-  before_untaken (p_taken h) e = cc
-  before_untaken (p_node p) e = cc
-  before_untaken (p_left p) e = cc
-  before_untaken (p_right {x = x} p) e = let i : x ≡ none = cc in before_none p i
-  before_untaken (p_first p) e = cc
-  before_untaken (p_second p) e = cc
+  nothing_before : {u v y : Cst A} → Prefers u v → y ≡ u → count y ≡ 0 → ⊥
+  nothing_before p e z = omega (arith, takes_some p, ap count e, z)
 
   crossed : {x y u v : Cst A} → Prefers x y → Prefers u v → y ≡ u → x ≡ v → ⊥
   crossed (p_node {x = x} {y = y} p) (p_node {x = u} {y = v} q) e e' = let i : y ≡ u = cc in let j : x ≡ v = cc in crossed p q i j
@@ -128,8 +122,8 @@ module _ {A : Type 0} where
   crossed (p_first {x = x} {x' = y} p) (p_second {x = u} q) e e' = let i : x ≡ y = cc in differ p i
   crossed (p_second {x = x} p) (p_first {x = u} {x' = v} q) e e' = let i : u ≡ v = cc in differ q i
   crossed (p_second {y = x} {y' = y} p) (p_second {y = u} {y' = v} q) e e' = let i : y ≡ u = cc in let j : x ≡ v = cc in crossed p q i j
-  crossed (p_turn h) q e e' = before_none q (sym e)
-  crossed (p_taken h) q e e' = before_untaken q (sym e)
+  crossed (p_turn h) q e e' = nothing_before q e refl
+  crossed (p_taken h z) q e e' = nothing_before q e z
   crossed p q e e' = cc
 
   pub one_way : {x y : Cst A} → Prefers x y → Prefers y x → ⊥

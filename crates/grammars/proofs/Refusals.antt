@@ -176,3 +176,47 @@ module _ {R A : Type 0} (G : R → Part R A) where
     );
     no_more = λ s r x w d. let i = into_guard d in k.no_more s r i.0 w i.1;
   }
+
+  out_of_guard : {f : Test A} {a : Part R A} {ts r : List A} {x : Cst A} → f.holds ts ≡ false → Reads G (guard f a) ts x r → ⊥
+  out_of_guard h (r_guard e d p) = never e h
+
+  -- where a test of the next token fails, the part is stuck there
+  pub stuck_unguarded : {f : Test A} {a : Part R A} (ts : List A) → f.holds ts ≡ false → f.far ts ≡ 0 → Productive G (guard f a) → Stuck G (guard f a) ts ts
+  stuck_unguarded {f = f} ts h z p = record {
+    before = [];
+    split = refl;
+    begins = p;
+    no_more = λ s r x w d. out_of_guard (holds_at f [] ts s ts refl (omega (arith, z)) (sym w) h) d;
+  }
+
+  -- Where a test of the first part has looked behind the place at which the second is stuck, the place is where the tests are settled,
+  -- if the tokens before that begin a list with a derivation.
+  pub stuck_beyond : {a b : Part R A} {ts r early rest : List A} {x : Cst A} → (d : Reads G a ts x r) → Settled (length rest) d → Stuck G b r early → (before : List A) → ts ≡ before ++ rest
+      → length rest ≤ length early → ((c : List A) × (y : Cst A) × Derives G (both a b) (before ++ c) y []) → Stuck G (both a b) ts rest
+  stuck_beyond {a = a} {b = b} {ts = ts} {r = r} {early = early} {rest = rest} {x = x} d seen e before split le begun = record {
+    before = before;
+    split = split;
+    begins = begun;
+    no_more = λ s q z w o. impossible s q w (parts o);
+  }
+    where
+      front : Front G a ts x r
+      front = front_of G d
+
+      at_early : ts ≡ (front.front ++ e.before) ++ early
+      at_early = front.split ∙ ap (λ m. front.front ++ m) e.split ∙ sym (append_assoc front.front e.before early)
+
+      l : Longer before rest (front.front ++ e.before) early
+      l = longer (front.front ++ e.before) before rest early (sym split ∙ at_early)
+          (omega (arith, le, ap length split, ap length at_early, length-append before rest, length-append (front.front ++ e.before) early))
+
+      at_rest : r ≡ (e.before ++ l.between) ++ rest
+      at_rest = e.split ∙ ap (λ m. e.before ++ m) l.backs ∙ sym (append_assoc e.before l.between rest)
+
+      impossible : (s q : List A) → first s ≡ first rest → Parts a b (before ++ s) q → ⊥
+      impossible s q w i =
+          let u = carry G d (e.before ++ l.between) rest s at_rest seen (sym w) in
+          let same : u.before ≡ before = append_cancel_right u.before before rest (sym u.split ∙ split) in
+          let again = one_reading G (along G (ap (λ m. m ++ s) same) u.reads) i.here in
+          e.no_more (l.between ++ s) q i.y (sym (ap first l.backs ∙ first_alike l.between rest s (sym w)))
+          (along G (sym again.rest ∙ append_assoc e.before l.between s) i.there)

@@ -1,8 +1,9 @@
 -- Where tables of first tokens decide what a test says of derivations, and which tests a reading has left behind.
 use Rattle.std.proofs.Common.{◌≡◌, ℕ, ◌+◌, ◌<◌, ◌≤◌, Bool, true, false, ◌&&◌, List, [], ◌∷◌, length, refl, arith}
-use Rattle.grammars.specs.Grammar.{Test, next, Part, one, row, both, choose, many, guard, Cst, first, test, Derives, d_nothing, d_one, d_row, d_both, d_left, d_right, d_more, d_done, d_guard, Reads, r_nothing, r_one, r_row, r_both, r_left, r_right, r_more, r_done, r_guard, Settled}
+use Rattle.grammars.specs.Grammar.{Test, next, Part, nothing, one, row, both, choose, many, guard, Cst, first, test, Derives, d_nothing, d_one, d_row, d_both, d_left, d_right, d_more, d_done, d_guard, Reads, r_nothing, r_one, r_row, r_both, r_left, r_right, r_more, r_done, r_guard, Settled}
 use Rattle.grammars.specs.Tables.{is_empty, begins, IsEmptyTable, IsBeginTable, Under, Apart, Picks, Leaves, Covers, IsNear}
 use Rattle.grammars.specs.Tests.{and_then}
+use Rattle.grammars.specs.Fair.{Fair, f_choose, f_nothing}
 use Rattle.grammars.proofs.Readings.{never, derives}
 use Rattle.grammars.proofs.Progress.{shorter, progress}
 use Rattle.grammars.proofs.Normal.{or_left, or_right, and_both}
@@ -112,3 +113,14 @@ module _ {R A : Type 0} (G : R → Part R A) where
         (omega (arith, le, k.0 ts, shorter G (derives G d), shorter G (derives G e)), settled_near m k.1 d (omega (arith, le, shorter G (derives G e))), settled_near m k e le)
     settled_near m k (r_done {ts = ts} h) le = omega (arith, le, k.0 ts)
     settled_near m k (r_guard {ts = ts} h d p) le = (omega (arith, le, k.0 ts, shorter G (derives G d)), settled_near m k.1 d le)
+
+module _ {R A : Type 0} (G : R → Part R A) (empty : R → Bool) where
+  leaves_nothing : (f : Test A) → Leaves G f nothing
+  leaves_nothing f = record { leaves = λ ts r x d p. none_taken ts r x d p }
+    where
+      none_taken : (ts r : List A) (x : Cst A) → Derives G nothing ts x r → length r < length ts → f.holds ts ≡ false
+      none_taken ts r x d_nothing p = absurd (omega (arith, p))
+
+  -- a part that may be left out
+  pub fair_maybe : {f : Test A} {a : Part R A} → Fair G empty a → Picks G f a → Fair G empty (choose f a nothing)
+  fair_maybe {f = f} k u = f_choose k f_nothing u (leaves_nothing f)

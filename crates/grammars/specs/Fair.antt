@@ -16,7 +16,7 @@ module _ {R A : Type 0} (G : R → Part R A) (empty : R → Bool) where
   pub data Edge : Bool → Part R A → Test A → Part R A → Type 0 where
     e_many : {f : Test A} {p : Part R A} → Edge true (many f p) f p
     e_inside : {c : Bool} {f g : Test A} {p q : Part R A} → Edge c p g q → Edge c (many f p) g q
-    e_maybe : {f : Test A} {p : Part R A} → Edge false (choose f p nothing) f p
+    e_maybe : {f : Test A} {p b : Part R A} → is_empty empty b ≡ true → Edge false (choose f p b) f p
     e_left : {c : Bool} {f g : Test A} {a b q : Part R A} → Edge c a g q → Edge c (choose f a b) g q
     e_right : {c : Bool} {f g : Test A} {a b q : Part R A} → Edge c b g q → Edge c (choose f a b) g q
     e_guard : {c : Bool} {f g : Test A} {a q : Part R A} → Edge c a g q → Edge c (guard f a) g q
@@ -33,8 +33,7 @@ module _ {R A : Type 0} (G : R → Part R A) (empty : R → Bool) where
     f_row : {r : R} → Fair (row r)
     f_guard : {f : Test A} {a : Part R A} → Fair a → is_empty empty a ≡ false → Covers G f a → Fair (guard f a)
     f_both : {a b : Part R A} → Fair a → Fair b → ((c : Bool) (g : Test A) (q : Part R A) → Edge c a g q → OfferedBy c b g q) → Fair (both a b)
-    f_maybe : {f : Test A} {a : Part R A} → Fair a → Picks G f a → Fair (choose f a nothing)
-    f_choose : {f : Test A} {a b : Part R A} → Fair a → Fair b → Picks G f a → is_empty empty b ≡ false → Leaves G f b → Fair (choose f a b)
+    f_choose : {f : Test A} {a b : Part R A} → Fair a → Fair b → Picks G f a → Leaves G f b → Fair (choose f a b)
     f_many : {f : Test A} {p : Part R A} → Fair p → Picks G f p → ((c : Bool) (g : Test A) (q : Part R A) → Edge c p g q → OfferedBy c (many f p) g q) → Fair (many f p)
 
   pub record IsFair : Type 0 where

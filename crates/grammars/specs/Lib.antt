@@ -1,7 +1,9 @@
 pub mod Grammar
 pub mod Tests
+pub mod Automata
 pub mod Tables
 pub mod Fair
 pub mod Order
 pub mod Laws
 pub mod Example
+pub mod Runs

@@ -15,7 +15,7 @@ count (right x) = count x
 -- tokens, and the second takes none.
 pub data Prefers {A : Type 0} : Cst A → Cst A → Type 0 where
   p_turn : {x y : Cst A} → 0 < count x → Prefers (pair x y) none
-  p_taken : {x : Cst A} → 0 < count x → Prefers (left x) (right none)
+  p_taken : {x y : Cst A} → 0 < count x → count y ≡ 0 → Prefers (left x) (right y)
   p_node : {x y : Cst A} → Prefers x y → Prefers (node x) (node y)
   p_left : {x y : Cst A} → Prefers x y → Prefers (left x) (left y)
   p_right : {x y : Cst A} → Prefers x y → Prefers (right x) (right y)

@@ -131,7 +131,7 @@ escape_tells (c ∷ text) = on_test (c == 117) refl
 -- ---- operators
 
 -- an operator in front, with its length, is one of the table
-data Listed (text : List ℕ) : Option (Operator × ℕ) → Type 0 where
+pub data Listed (text : List ℕ) : Option (Operator × ℕ) → Type 0 where
   not_listed : Listed text None
   listed : {k : Operator} {n : ℕ} → 1 ≤ n → Spelled (take n text) k operators → Listed text (Some (k, n))
 
@@ -159,7 +159,7 @@ with_listed n text (e ∷ es) other h l f o =
     (λ i. listed h (f (take n text) e.1 (here (sym (front_is e.0 text i) ∙ ap (λ m. take m text) (same_of (length e.0) n (first_of (length e.0 == n) _ l))) refl)))
     (with_listed n text es other h (second_of (length e.0 == n) l) (λ w k s. f w k (there s)) o)
 
-operator_listed : (text : List ℕ) → Listed text (operator_of text)
+pub operator_listed : (text : List ℕ) → Listed text (operator_of text)
 operator_listed text =
     with_listed 3 text of_three _ (omega arith) refl (λ w k s. spelled_left _ s) (
     with_listed 2 text assignments _ (omega arith) refl (λ w k s. spelled_right of_three (spelled_left _ s)) (
@@ -208,7 +208,7 @@ module _ (inside : Option Open) (before : Lead) (at : ℕ) where
   of_number_tells : (text : List ℕ) → is_digit (unit_at text 0) ≡ true → (k : Number) → number_of (spec.is_minus before) (word_of text) ≡ k → Tells inside before at text (spec.of_number k (word_length text) at)
   of_number_tells text e number.No i = tt
   of_number_tells text e number.TooWide i = tt
-  of_number_tells text e (number.Value v long) i = a_number (ap is_digit (get_or-take (word_length text) text 0 0 (digit_some text e)) ∙ e) (run_alone text ∙ sym (length-take-le (word_length text) text (word_within text))) i
+  of_number_tells text e (number.Value v long) i = a_number (ap is_digit (get_or-take (word_length text) text 0 0 (digit_some text e)) ∙ e) (run_alone text ∙ sym (length-take-le (word_length text) text (word_within text))) (longest_word text).ends i
 
   of_operator_tells : (text : List ℕ) {o : Option (Operator × ℕ)} → Listed text o → spec.is_hole_end inside text ≡ false → Tells inside before at text (spec.of_operator o before at)
   of_operator_tells text not_listed e = tt

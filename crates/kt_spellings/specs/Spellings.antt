@@ -75,7 +75,8 @@ pub data CodeSpells (inside : Option Open) (before : Lead) (at : ℕ) : List ℕ
   a_label : {w rest : List ℕ} → IsName w → CodeSpells inside before at (w ++ codes "@") rest shape.Label
   -- directly behind `break`, `continue` or `return`; the name is whole, as no front of a keyword is one
   a_label_use : {w rest : List ℕ} → before ≡ lead.Jump at → IsName w → part_length rest ≡ 0 → CodeSpells inside before at (64 ∷ w) rest shape.LabelUse
-  a_number : {w rest : List ℕ} {v : ℕ} {long : Bool} → is_digit (unit_at w 0) ≡ true → word_length w ≡ length w
+  -- a number is a whole run of identifier characters, as no front of `12ab` is one
+  a_number : {w rest : List ℕ} {v : ℕ} {long : Bool} → is_digit (unit_at w 0) ≡ true → word_length w ≡ length w → part_length rest ≡ 0
       → number_of (is_minus before) w ≡ number.Value v long → CodeSpells inside before at w rest (shape.Number v long)
   a_character : {u : ℕ} {rest : List ℕ} → (u == 92) ≡ false → (u == 39 || is_line_end u) ≡ false
       → CodeSpells inside before at (39 ∷ u ∷ 39 ∷ []) rest (shape.CharLiteral u)
