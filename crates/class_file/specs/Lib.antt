@@ -10,3 +10,11 @@ pub mod Lots
 pub mod Members
 pub mod Typing
 pub mod Verification
+pub mod InstrBytes
+pub mod ClassBytes
+pub mod WrittenClass
+pub mod Opcodes
+pub mod Inputs
+pub mod DescriptorFaults
+pub mod PoolFaults
+pub mod FormatFaults

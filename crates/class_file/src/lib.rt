@@ -2,6 +2,7 @@
 #![tactic(auto)]
 
 pub mod class;
+pub mod format_fault;
 pub mod instr;
 pub mod pool;
 pub mod row;

@@ -1,0 +1,4 @@
+pub mod Grammar
+pub mod Slots
+pub mod Fitting
+pub mod Examples

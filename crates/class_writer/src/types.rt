@@ -1,0 +1,91 @@
+//! Verification types as bytes (Java Virtual Machine Specification SE 8, 4.7.4).
+ghost use Rattle.std.specs.Prelude.{◌≡◌, ◌++◌, ◌<◌, ◌^◌, OnOk, length};
+ghost use Rattle.std.specs.List.{flat_map, AllByRecursion};
+ghost use Rattle.std.specs.Option.{option_copied};
+ghost use Rattle.class_file.specs.WrittenClass.{type_bytes, table_bytes, is_type, behind};
+ghost use Rattle.class_writer.specs.Indexes.{AreFirst, slots_of};
+ghost use Rattle.class_writer.specs.Fits.{IsSmall, AreSmall};
+
+use crate::names::Names;
+use crate::numbers::{put_u1, put_u2};
+use class_file::class::VType;
+use kc_text::Memory;
+
+/// Puts a type at the end.
+pub fn put_type(out: &mut Vec<u8>, names: &Names, kept: &VType) -> Result<(), Memory>
+    requires first { AreFirst names.now }
+    requires small { IsSmall kept.now }
+    ensures { OnOk result (out.new.items ≡ out.old.items ++ type_bytes (slots_of names.now) kept.now) }
+{
+    match kept {
+        VType::Top => put_u1(out, 0),
+        VType::Integer => put_u1(out, 1),
+        VType::Long => put_u1(out, 4),
+        VType::Null => put_u1(out, 5),
+        VType::UninitializedThis => put_u1(out, 6),
+        VType::Object(name) => {
+            put_u1(out, 7)?;
+            names.put_class(out, name)
+        }
+        VType::Uninitialized(at) => {
+            put_u1(out, 8)?;
+            put_u2(out, *at as u16)
+        }
+    }
+}
+
+/// Puts types at the end.
+pub fn put_each_type(out: &mut Vec<u8>, names: &Names, types: &[VType]) -> Result<(), Memory>
+    requires first { AreFirst names.now }
+    requires small { AllByRecursion IsSmall types.now }
+    ensures { OnOk result (out.new.items ≡ out.old.items ++ flat_map (type_bytes (slots_of names.now)) types.now) }
+{
+    for kept in types {
+        put_type(out, names, kept)?;
+    }
+    Ok(())
+}
+
+/// Puts types, their count first, at the end.
+pub fn put_types(out: &mut Vec<u8>, names: &Names, types: &[VType]) -> Result<(), Memory>
+    requires first { AreFirst names.now }
+    requires small { AreSmall types.now }
+    ensures { OnOk result (out.new.items ≡ out.old.items ++ table_bytes (type_bytes (slots_of names.now)) types.now) }
+{
+    put_u2(out, types.len() as u16)?;
+    put_each_type(out, names, types)
+}
+
+fn is_type(kept: &VType, other: &VType) -> bool
+    ensures { result ≡ is_type kept.now other.now }
+{
+    match (kept, other) {
+        (VType::Top, VType::Top) => true,
+        (VType::Integer, VType::Integer) => true,
+        (VType::Long, VType::Long) => true,
+        (VType::Null, VType::Null) => true,
+        (VType::UninitializedThis, VType::UninitializedThis) => true,
+        (VType::Object(name), VType::Object(wanted)) => name == wanted,
+        (VType::Uninitialized(at), VType::Uninitialized(place)) => *at == *place,
+        _ => false,
+    }
+}
+
+/// What stands in the second list behind the first, if it begins with that.
+pub fn behind<'a>(front: &[VType], whole: &'a [VType]) -> Option<&'a [VType]>
+    ensures { option_copied result ≡ behind front.now whole.now }
+{
+    let mut rest = whole;
+    for kept in front {
+        match rest {
+            [] => return None,
+            [first, others @ ..] => {
+                if !is_type(kept, first) {
+                    return None;
+                }
+                rest = others;
+            }
+        }
+    }
+    Some(rest)
+}
