@@ -1,7 +1,7 @@
 -- The bytes of class files (Java Virtual Machine Specification SE 8, chapter 4).
 -- A class may be spelled in several ways: a name by any entry of the pool that has its text, a frame by several forms, and the
 -- code of a method before, between or behind the method's other attributes.
-use Rattle.std.specs.Prelude.{◌≡◌, ℕ, ◌+◌, ◌-◌, ◌^◌, ◌<◌, List, [], ◌∷◌, ◌++◌, length, map, Option, Some, None, IfSome, IsSome, Bool, true, false, ◌||◌, ◌==◌, if◌then◌else◌, IsTrue, IsFalse, All, ◌⊎◌, ⊤, FitsSigned, is_some, codes}
+use Rattle.std.specs.Prelude.{◌≡◌, ℕ, ◌+◌, ◌-◌, ◌^◌, ◌<◌, List, [], ◌∷◌, ◌++◌, length, map, Option, Some, None, IfSome, IsSome, Bool, true, false, ◌||◌, if◌then◌else◌, IsTrue, IsFalse, All, ◌⊎◌, ⊤, FitsSigned, is_some, codes}
 use Rattle.std.specs.List.{flat_map, list_any}
 use Rattle.std.specs.Int.{w32, w64}
 use Rattle.kc_text.specs.Modified.{modified_of, AreUnits}
@@ -18,7 +18,7 @@ use Rattle.class_file.specs.declared.pool.Entry.TheVariants as entry
 use Rattle.class_file.specs.declared.instr.Instr.{Instr}
 use Rattle.class_file.specs.Indexing.{added}
 use Rattle.class_file.specs.Pools.{Slots, entry_at, text_in, name_in, field_in, named_in, Member, Named, is_text}
-use Rattle.class_file.specs.Descriptors.{field_type, signature}
+use Rattle.class_file.specs.Descriptors.{is_array_name, field_type, signature}
 use Rattle.class_file.specs.Classes.{is_static_flag, is_abstract_flag}
 use Rattle.class_file.specs.Members.{described}
 use Rattle.class_file.specs.InstrBytes.{u1, u2, u4, s4, s8, instr_bytes, IsInstr}
@@ -68,10 +68,6 @@ is_field_descriptor units = is_some (field_type units)
 
 abbrev pub is_method_descriptor : List ℕ → Bool
 is_method_descriptor units = is_some (signature units)
-
-abbrev pub is_array_name : List ℕ → Bool
-is_array_name [] = false
-is_array_name (u ∷ us) = u == 91
 
 -- what a Class entry may name: a class, or an array by its descriptor
 abbrev pub is_type_name : List ℕ → Bool

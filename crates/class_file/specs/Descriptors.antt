@@ -12,6 +12,11 @@ pub data FieldType : Type 0 where
   LongType : FieldType
   Reference : (name : List ℕ) → FieldType
 
+-- the name of an array, which is its descriptor
+abbrev pub is_array_name : List ℕ → Bool
+is_array_name [] = false
+is_array_name (u ∷ us) = u == 91
+
 -- what the machine keeps of it
 abbrev pub kind_of : FieldType → Kind
 kind_of IntType = kinds.Int

@@ -19,7 +19,8 @@ use Rattle.class_file.specs.declared.format_fault.FormatCode.TheVariants.{Trunca
 use Rattle.class_file.specs.Pools.{Slots, entry_at, is_text}
 use Rattle.class_file.specs.Classes.{is_static_flag, is_abstract_flag}
 use Rattle.class_file.specs.Members.{described}
-use Rattle.class_file.specs.ClassBytes.{text_at, name_at, is_array_name, is_unset, Before, place_behind, behind_frame, receiver, Key, code_name, stack_map_table, magic, major_version}
+use Rattle.class_file.specs.Descriptors.{is_array_name}
+use Rattle.class_file.specs.ClassBytes.{text_at, name_at, is_unset, Before, place_behind, behind_frame, receiver, Key, code_name, stack_map_table, magic, major_version}
 use Rattle.class_file.specs.Opcodes.{Form, Plain, Signed1, Signed2, Unsigned1, Unsigned2, Short, Index, Increment, WideIncrement, CallOfInterface, form_of, wide_form_of}
 use Rattle.class_file.specs.Inputs.{◌>>=◌, Input, Reading, read, fault, refused, bytes_at, number_at, signed_at, expected, window, sized, each, table}
 use Rattle.class_file.specs.DescriptorFaults.{field_descriptor_fault, method_descriptor_fault}

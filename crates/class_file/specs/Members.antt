@@ -1,6 +1,6 @@
 -- What the names of a class mean to the verifier: which references are below which, and what a call by name takes and gives
 -- (Java Virtual Machine Specification SE 8, 4.10.1.2 and 5.4.3.3).
-use Rattle.std.specs.Prelude.{◌≡◌, ℕ, zero, suc, ◌+◌, List, [], ◌∷◌, ◌++◌, length, map, Option, Some, None, Bool, true, false, ◌==◌, ◌||◌, ◌&&◌, not, if◌then◌else◌, codes}
+use Rattle.std.specs.Prelude.{ℕ, zero, suc, List, [], ◌∷◌, ◌++◌, map, Option, Some, None, Bool, true, false, ◌==◌, ◌||◌, ◌&&◌, not, if◌then◌else◌, codes}
 use Rattle.std.specs.Option.{option_map}
 use Rattle.class_file.specs.declared.class.VType.{VType}
 use Rattle.class_file.specs.declared.class.VType.TheVariants.{Top, Integer, Long, Null, UninitializedThis, Object, Uninitialized}
@@ -11,21 +11,10 @@ use Rattle.class_file.specs.declared.row.Row.TheVariants as row
 use Rattle.class_file.specs.declared.pool.Entry.{Entry}
 use Rattle.class_file.specs.declared.pool.Entry.TheVariants as entry
 use Rattle.class_file.specs.Pools.{Slots, Member, entry_at, name_in, typed_in, is_text}
-use Rattle.class_file.specs.Descriptors.{FieldType, IntType, CharType, BooleanType, LongType, Reference, Signature, signature, field_type}
-use Rattle.class_file.specs.Classes.{Element, ClassView, class_at, class_number, chain, first_method, named_method, FoundMethod, named_field, FoundField, element_of_class, without_last, object_class}
+use Rattle.class_file.specs.Descriptors.{FieldType, IntType, CharType, BooleanType, LongType, Reference, is_array_name, Signature, signature, field_type}
+use Rattle.class_file.specs.Classes.{Element, ClassView, class_at, class_number, chain, is_below, is_special_name, owner_number, first_method, named_method, FoundMethod, named_field, FoundField, without_last, named_type, can_be_made, object_class}
 
 -- ---- references
-
--- behind so many `[`: more of them, or `L` with a class's name and `;`
-abbrev pub array_reference : Set → ℕ → List ℕ → Option Element
-array_reference set dimensions [] = None
-array_reference set dimensions (u ∷ us) =
-    if u == 91 then array_reference set (dimensions + 1) us else element_of_class (class_number set (without_last us)) dimensions
-
--- what a type names: a class, or an array by its element
-abbrev pub named_reference : Set → List ℕ → Option Element
-named_reference set [] = element_of_class (class_number set []) 0
-named_reference set (u ∷ us) = if u == 91 then array_reference set 1 us else element_of_class (class_number set (u ∷ us)) 0
 
 -- Object and the interfaces, which every reference is below
 abbrev pub is_interface_view : Option ClassView → Bool
@@ -54,7 +43,7 @@ below_element set (Some x) (Some y) = element_below set x.class x.dimensions y.c
 below_element set _ _ = false
 
 abbrev pub reference_below : Set → List ℕ → List ℕ → Bool
-reference_below set b c = is_text b c || below_element set (named_reference set b) (named_reference set c)
+reference_below set b c = is_text b c || below_element set (named_type set b) (named_type set c)
 
 -- Whether values of the first type are values of the second: each is below itself and Top, null below every reference, and
 -- references below their superclasses, arrays by their elements, and all of them below Object and the interfaces. What is
@@ -100,11 +89,6 @@ described descriptor = call_or_none (signature descriptor)
 
 -- ---- calls by name
 
--- the names that only the run-time system calls, or that only invokespecial may call
-abbrev pub is_special : List ℕ → Bool
-is_special [] = false
-is_special (u ∷ us) = u == 60
-
 abbrev same_answer : Bool → Bool → Bool
 same_answer true b = b
 same_answer false b = not b
@@ -117,7 +101,7 @@ is_there None = false
 abbrev pub has_static : Set → Bool → Member → Option ℕ → Bool
 has_static set interface m None = false
 has_static set interface m (Some n) =
-    same_answer interface (is_interface_view (class_at set n)) && (not (is_special m.name) && is_there (first_method set true m.name m.descriptor (chain set n)))
+    same_answer interface (is_interface_view (class_at set n)) && (not (is_special_name m.name) && is_there (first_method set true m.name m.descriptor (chain set n)))
 
 abbrev pub when_there : Bool → Member → Option Call
 when_there true m = option_map call_of (signature m.descriptor)
@@ -125,7 +109,7 @@ when_there false m = None
 
 abbrev pub static_member : Set → Bool → Option Member → Option Call
 static_member set interface None = None
-static_member set interface (Some m) = when_there (has_static set interface m (class_number set m.owner)) m
+static_member set interface (Some m) = when_there (has_static set interface m (owner_number set m.owner m.name)) m
 
 abbrev pub static_entry : Set → Slots → Option Entry → Option Call
 static_entry set slots (Some (entry.MethodRef owner member)) = static_member set false (typed_in slots (name_in slots (entry_at slots owner)) (entry_at slots member))
@@ -148,11 +132,11 @@ received m (Some f) = option_map (λ s. record { owner = m.owner; call = call_of
 abbrev virtual_in : Set → Bool → Member → Option ℕ → Option ReceiverCall
 virtual_in set interface m None = None
 virtual_in set interface m (Some n) =
-    if same_answer interface (is_interface_view (class_at set n)) && not (is_special m.name) then received m (named_method set false m.name m.descriptor n) else None
+    if same_answer interface (is_interface_view (class_at set n)) && not (is_special_name m.name) then received m (named_method set false m.name m.descriptor n) else None
 
 abbrev virtual_member : Set → Bool → Option Member → Option ReceiverCall
 virtual_member set interface None = None
-virtual_member set interface (Some m) = virtual_in set interface m (class_number set m.owner)
+virtual_member set interface (Some m) = virtual_in set interface m (owner_number set m.owner m.name)
 
 abbrev virtual_entry : Set → Bool → Slots → Option Entry → Option ReceiverCall
 virtual_entry set false slots (Some (entry.MethodRef owner member)) = virtual_member set false (typed_in slots (name_in slots (entry_at slots owner)) (entry_at slots member))
@@ -163,40 +147,37 @@ virtual_entry set interface slots _ = None
 abbrev pub virtual_call : Set → Bool → ClassFile → ℕ → Option ReceiverCall
 virtual_call set interface class i = virtual_entry set interface class.pool (entry_at class.pool i)
 
--- what invokespecial names: a constructor; or a method of this class, of one above it, or of an interface that it lists
+-- what invokespecial names: a constructor; or a method of this class, or of a class or an interface above it
 pub data SpecialCall : Type 0 where
   Constructs : (call : ReceiverCall) → SpecialCall
   CallsSuper : (call : ReceiverCall) → SpecialCall
   NoSpecial : SpecialCall
 
+-- a constructor gives nothing
 abbrev constructs : Option ReceiverCall → SpecialCall
-constructs (Some c) = Constructs c
+constructs (Some c) = elim c.call.result [ None ↦ Constructs c | Some t ↦ NoSpecial ]
 constructs None = NoSpecial
 
 abbrev calls_super : Option ReceiverCall → SpecialCall
 calls_super (Some c) = CallsSuper c
 calls_super None = NoSpecial
 
-abbrev is_one_of : List ℕ → List (List ℕ) → Bool
-is_one_of name [] = false
-is_one_of name (n ∷ ns) = is_text n name || is_one_of name ns
-
 -- whether invokespecial may name a method of this class or interface
-abbrev may_name : Set → ClassFile → List ℕ → ℕ → Option ℕ → Bool
-may_name set class owner n None = false
-may_name set class owner n (Some this) = is_member n (chain set this) || is_one_of owner class.interfaces
+abbrev may_name : Set → ℕ → Option ℕ → Bool
+may_name set n None = false
+may_name set n (Some this) = is_below set this n
 
 abbrev special_in : Set → ClassFile → Bool → Member → Option ℕ → SpecialCall
 special_in set class interface m None = NoSpecial
 special_in set class interface m (Some n) =
     if not (same_answer interface (is_interface_view (class_at set n))) then NoSpecial
     else (if is_text m.name (codes "<init>") then (if interface then NoSpecial else constructs (received m (named_method set false m.name m.descriptor n)))
-    else (if is_special m.name || not (may_name set class m.owner n (class_number set class.this_name)) then NoSpecial
+    else (if is_special_name m.name || not (may_name set n (class_number set class.this_name)) then NoSpecial
     else calls_super (received m (named_method set false m.name m.descriptor n))))
 
 abbrev special_member : Set → ClassFile → Bool → Option Member → SpecialCall
 special_member set class interface None = NoSpecial
-special_member set class interface (Some m) = special_in set class interface m (class_number set m.owner)
+special_member set class interface (Some m) = special_in set class interface m (owner_number set m.owner m.name)
 
 abbrev special_entry : Set → ClassFile → Slots → Option Entry → SpecialCall
 special_entry set class slots (Some (entry.MethodRef owner member)) = special_member set class false (typed_in slots (name_in slots (entry_at slots owner)) (entry_at slots member))
@@ -240,9 +221,13 @@ field_use set static class i = field_entry set static class.pool (entry_at class
 abbrev pub named_class : ClassFile → ℕ → Option (List ℕ)
 named_class class i = name_in class.pool (entry_at class.pool i)
 
-abbrev pub is_array_name : List ℕ → Bool
-is_array_name [] = false
-is_array_name (u ∷ us) = u == 91
+abbrev if_type : Set → Option (List ℕ) → Option (List ℕ)
+if_type set None = None
+if_type set (Some name) = if is_there (named_type set name) then Some name else None
+
+-- the same, where there is such a class, or a class of such elements
+abbrev pub type_named : Set → ClassFile → ℕ → Option (List ℕ)
+type_named set class i = if_type set (named_class class i)
 
 -- the descriptor of the arrays of a class or of arrays
 abbrev pub array_of : List ℕ → List ℕ
@@ -254,17 +239,13 @@ element_of [] = None
 element_of (u ∷ []) = None
 element_of (u ∷ v ∷ vs) = if u == 91 then Some (if v == 91 then v ∷ vs else without_last vs) else None
 
-abbrev is_makeable : Option ClassView → Bool
-is_makeable None = false
-is_makeable (Some c) = not c.is_interface && not c.is_abstract
-
-abbrev class_of_number : Set → Option ℕ → Option ClassView
-class_of_number set None = None
-class_of_number set (Some n) = class_at set n
+abbrev can_make_class : Set → Option ℕ → Bool
+can_make_class set None = false
+can_make_class set (Some n) = can_be_made set n
 
 abbrev can_make : Set → Option (List ℕ) → Bool
 can_make set None = false
-can_make set (Some name) = is_makeable (class_of_number set (class_number set name))
+can_make set (Some name) = can_make_class set (class_number set name)
 
 -- `new` of a class of which no object can be made
 abbrev pub cannot_be_made : Set → ClassFile → Row → Bool

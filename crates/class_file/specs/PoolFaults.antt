@@ -9,9 +9,8 @@ use Rattle.class_file.specs.declared.format_fault.FormatCode.{FormatCode}
 use Rattle.class_file.specs.declared.format_fault.FormatCode.TheVariants.{BadPool, BadName, BadIndex, BadDescriptor, OutOfProfile}
 use Rattle.class_file.specs.Indexing.{added}
 use Rattle.class_file.specs.Pools.{Slots, entry_at, text_in}
-use Rattle.class_file.specs.ClassBytes.{is_field_descriptor, is_method_descriptor}
 use Rattle.class_file.specs.Inputs.{◌>>=◌, Input, Reading, read, fault, refused, bytes_at, number_at, signed_at, text_of_modified}
-use Rattle.class_file.specs.DescriptorFaults.{descriptor_fault, type_name_fault}
+use Rattle.class_file.specs.DescriptorFaults.{is_any_field_descriptor, is_any_method_descriptor, descriptor_fault, type_name_fault}
 
 -- ---- the pool (4.4)
 
@@ -75,8 +74,8 @@ judged slots count AText found = of_text found (λ t. None)
 judged slots count ATypeName found = of_text found type_name_fault
 judged slots count ADescriptor found = of_text found descriptor_fault
 judged slots count AClass found = of_class found
-judged slots count AFieldsType found = of_type slots count is_method_descriptor found
-judged slots count AMethodsType found = of_type slots count is_field_descriptor found
+judged slots count AFieldsType found = of_type slots count is_any_method_descriptor found
+judged slots count AMethodsType found = of_type slots count is_any_field_descriptor found
 
 -- the first of the indexes that does not name what it is wanted to
 unfoldable pub uses_fault : {A : Type 0} → Slots → ℕ → List Use → Result A FormatFault → Result A FormatFault

@@ -1,6 +1,6 @@
 -- What the verifier knows of a method's frame, and what each instruction makes of it
 -- (Java Virtual Machine Specification SE 8, 4.10.1.2 to 4.10.1.4 and 4.10.1.9).
-use Rattle.std.specs.Prelude.{◌≡◌, ℕ, zero, suc, ◌+◌, ◌-◌, List, [], ◌∷◌, ◌++◌, length, Option, Some, None, Bool, true, false, nat_lt, ◌==◌, ◌&&◌, ◌||◌, if◌then◌else◌, slice_get, slice_set, reverse, replicate, map, drop, not, Result, Ok, Err, codes}
+use Rattle.std.specs.Prelude.{ℕ, ◌+◌, ◌-◌, List, [], ◌∷◌, ◌++◌, length, Option, Some, None, Bool, true, false, nat_lt, ◌==◌, ◌&&◌, ◌||◌, if◌then◌else◌, slice_get, slice_set, reverse, drop, not, Result, Ok, Err, codes}
 use Rattle.class_file.specs.declared.value.Kind.{Kind}
 use Rattle.class_file.specs.declared.value.Kind.TheVariants as kinds
 use Rattle.class_file.specs.declared.class.VType.{VType}
@@ -17,9 +17,10 @@ use Rattle.class_file.specs.declared.verify_code.VerifyCode.TheVariants.{LocalRa
 use Rattle.class_file.specs.declared.pool.Entry.{Entry}
 use Rattle.class_file.specs.declared.pool.Entry.TheVariants as entry
 use Rattle.class_file.specs.Pools.{entry_at, constant_in, Constant, Number, Literal, is_text}
-use Rattle.class_file.specs.Rows.{row_of, instr_at}
+use Rattle.class_file.specs.Rows.{instr_at}
+use Rattle.class_file.specs.Descriptors.{is_array_name}
 use Rattle.class_file.specs.Classes.{class_number}
-use Rattle.class_file.specs.Members.{assignable, Call, described, static_call, ReceiverCall, virtual_call, SpecialCall, Constructs, CallsSuper, NoSpecial, special_call, FieldUse, field_use, named_class, is_array_name, array_of, element_of}
+use Rattle.class_file.specs.Members.{assignable, Call, described, static_call, ReceiverCall, virtual_call, SpecialCall, Constructs, CallsSuper, NoSpecial, special_call, FieldUse, field_use, named_class, type_named, array_of, element_of}
 
 -- The types of the local variables, one for each place, so that a Long is followed by Top; those of the stack, its top first;
 -- and whether this is a constructor that has not called another yet.
@@ -354,9 +355,9 @@ typed set class m pc (row.InvokeSpecial i) t = t_special set class m t (special_
 typed set class m pc (row.InvokeStatic i) t = t_call set t (static_call set class i)
 typed set class m pc (row.InvokeInterface i) t = t_interface set t (virtual_call set true class i)
 typed set class m pc (row.New i) t = t_new pc t (named_class class i)
-typed set class m pc (row.NewArray i) t = t_new_array t (named_class class i)
-typed set class m pc (row.CheckCast i) t = t_cast t (named_or_null (named_class class i)) (named_class class i)
-typed set class m pc (row.InstanceOf i) t = t_cast t Integer (named_class class i)
+typed set class m pc (row.NewArray i) t = t_new_array t (type_named set class i)
+typed set class m pc (row.CheckCast i) t = t_cast t (named_or_null (type_named set class i)) (type_named set class i)
+typed set class m pc (row.InstanceOf i) t = t_cast t Integer (type_named set class i)
 typed set class m pc row.ArrayLength t = t_array t.stack (λ u rest. left t (Integer ∷ rest))
 typed set class m pc row.ArrayLoad t = t_int t.stack (λ rest. t_array rest (λ u below. left t (u ∷ below)))
 typed set class m pc row.ArrayStore t = t_reference t.stack (λ rest. t_int rest (λ more. t_array more (λ u below. left t below)))

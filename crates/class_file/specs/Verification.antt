@@ -1,6 +1,6 @@
 -- Which sets of class files verify, and which instruction is the first that does not
 -- (Java Virtual Machine Specification SE 8, 4.10.1.5 to 4.10.1.7).
-use Rattle.std.specs.Prelude.{◌≡◌, ℕ, zero, suc, ◌+◌, ◌-◌, List, [], ◌∷◌, ◌++◌, length, Option, Some, None, Bool, true, false, nat_lt, nat_le, ◌==◌, ◌&&◌, ◌||◌, if◌then◌else◌, slice_get, reverse, replicate, not, Result, Ok, Err, codes, bit_and}
+use Rattle.std.specs.Prelude.{◌≡◌, ℕ, ◌+◌, ◌-◌, List, [], ◌∷◌, ◌++◌, length, Option, Some, None, Bool, true, false, nat_lt, nat_le, ◌==◌, ◌&&◌, ◌||◌, if◌then◌else◌, slice_get, reverse, replicate, not, Result, Ok, Err, codes, bit_and}
 use Rattle.class_file.specs.declared.class.VType.{VType}
 use Rattle.class_file.specs.declared.class.VType.TheVariants.{Top, Long, Object, UninitializedThis}
 use Rattle.class_file.specs.declared.class.Frame.{Frame}

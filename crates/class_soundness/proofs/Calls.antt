@@ -14,10 +14,10 @@ use Rattle.class_file.specs.declared.pool.Entry.{Entry}
 use Rattle.class_file.specs.declared.pool.Entry.TheVariants as entry
 use Rattle.class_file.specs.Pools.{Slots, Member, named, named_in, entry_at, name_in, typed_in, is_text}
 use Rattle.class_file.specs.Descriptors.{FieldType, IntType, CharType, BooleanType, LongType, Reference, Signature, signature, kind_of}
-use Rattle.class_file.specs.Classes.{ClassView, MethodView, FoundMethod, class_at, class_number, own_method, first_method, found_in, named_method, chain, supertypes, is_special_name}
+use Rattle.class_file.specs.Classes.{ClassView, MethodView, FoundMethod, class_at, own_method, first_method, found_in, named_method, chain, supertypes, is_special_name, owner_number}
 use Rattle.class_file.specs.Natives.{Object}
 use Rattle.class_file.specs.Machine.{Callee, Static, callee, callee_at, callee_of, resolve, pool_of, may_call, may_name, is_interface_in, has_kind, Popped, take_args, popped, spread, first_locals}
-use Rattle.class_file.specs.Members.{Call, call_of, static_call, static_entry, static_member, has_static, when_there, is_interface_view, is_special, is_there, type_of_field}
+use Rattle.class_file.specs.Members.{Call, call_of, static_call, static_entry, static_member, has_static, when_there, is_interface_view, is_there, type_of_field}
 use Rattle.class_file.specs.Typing.{misuse, misuses}
 use Rattle.class_file.specs.Verification.{padded}
 use Rattle.class_file.specs.Verification as verification
@@ -25,7 +25,6 @@ use Rattle.class_soundness.specs.Soundness.{IsLoaded}
 use Rattle.class_soundness.proofs.Fits.{Has, Fits, Has-assign, Fits-append, Fits-replicate, Fits-length}
 use Rattle.class_soundness.proofs.Tests.{both_true}
 use Rattle.class_soundness.proofs.Rows.{used_well, worse_none}
-use Rattle.class_soundness.proofs.Loaded.{owners}
 use Rattle.class_soundness.proofs.Found.{text_same, some_same, none_is, not_true}
 use Rattle.class_soundness.proofs.Natives.{HasAll}
 
@@ -44,10 +43,6 @@ pub record Calls (set : Set) (o : Option Callee) (call : Call) : Type 0 where
 same_view : (o : Option ClassView) → is_interface_view o ≡ is_interface_in o
 same_view None = refl
 same_view (Some c) = refl
-
-same_name : (name : List ℕ) → is_special name ≡ is_special_name name
-same_name [] = refl
-same_name (u ∷ us) = refl
 
 not_init : (name : List ℕ) → is_special_name name ≡ false → is_text name (codes "<init>") ≡ false
 not_init name e = by (is_text name (codes "<init>")) refl
@@ -84,8 +79,8 @@ found_first set name descriptor (n ∷ ns) f e = by (found_first set name descri
     by rest None k e = rest e
     by rest (Some m) k e = subst (λ (g : FoundMethod). own_method set true name descriptor g.class ≡ Some g.method) (some_same (record { class = n; method = m }) f e) k
 
-module _ (set : Set) (loaded : IsLoaded set) where
-  module _ (of_interface : Bool) (m : Member) (call : Call) (n : ℕ) (owner : class_number set m.owner ≡ Some n) where
+module _ (set : Set) where
+  module _ (of_interface : Bool) (m : Member) (call : Call) (n : ℕ) (owner : owner_number set m.owner m.name ≡ Some n) where
     abbrev chosen : Bool → Option Callee
     chosen b = cond b (callee_of n (named_method set true m.name m.descriptor n) (signature m.descriptor)) None
 
@@ -106,13 +101,13 @@ module _ (set : Set) (loaded : IsLoaded set) where
     }
 
     -- the same way of naming, and no special name, and the method is in the chain
-    by_test : (b : Bool) → (b && (not (is_special m.name) && is_there (first_method set true m.name m.descriptor (chain set n)))) ≡ true
+    by_test : (b : Bool) → (b && (not (is_special_name m.name) && is_there (first_method set true m.name m.descriptor (chain set n)))) ≡ true
         → may_call Static of_interface (is_interface_in (class_at set n)) ≡ b → option_map call_of (signature m.descriptor) ≡ Some call
         → Calls set (callee_at set Static (record { is_interface = of_interface; member = m }) (Some n)) call
     by_test b h k e =
-        let p = both_true b (not (is_special m.name) && is_there (first_method set true m.name m.descriptor (chain set n))) h in
-        let q = both_true (not (is_special m.name)) (is_there (first_method set true m.name m.descriptor (chain set n))) p.1 in
-        let plain : is_special_name m.name ≡ false = sym (same_name m.name) ∙ not_true (is_special m.name) q.0 in
+        let p = both_true b (not (is_special_name m.name) && is_there (first_method set true m.name m.descriptor (chain set n))) h in
+        let q = both_true (not (is_special_name m.name)) (is_there (first_method set true m.name m.descriptor (chain set n))) p.1 in
+        let plain = not_true (is_special_name m.name) q.0 in
         let f : First set m.name m.descriptor (named_method set true m.name m.descriptor n) =
         subst (λ (b : Bool). First set m.name m.descriptor (search b)) (sym (not_init m.name plain)) (first_of set m.name m.descriptor (chain set n) (supertypes set n) q.1) in
         let allowed : (may_call Static of_interface (is_interface_in (class_at set n)) && may_name Static m.name) ≡ true =
@@ -123,21 +118,21 @@ module _ (set : Set) (loaded : IsLoaded set) where
   when_so true m call e = (refl, e)
   when_so false m call e = absurd (none_is call e)
 
-  by_number : (of_interface : Bool) (m : Member) (call : Call) (o : Option ℕ) → class_number set m.owner ≡ o → static_member set of_interface (Some m) ≡ Some call
+  by_number : (of_interface : Bool) (m : Member) (call : Call) (o : Option ℕ) → owner_number set m.owner m.name ≡ o → static_member set of_interface (Some m) ≡ Some call
       → has_static set of_interface m o ≡ true → option_map call_of (signature m.descriptor) ≡ Some call → Calls set (callee set Static (Some (record { is_interface = of_interface; member = m }))) call
   by_number of_interface m call None k e h s = absurd cc
   by_number true m call (Some n) k e h s =
-      subst (λ (o : Option ℕ). Calls set (callee_at set Static (record { is_interface = true; member = m }) o) call) (sym (owners set loaded m.owner m.name n k))
+      subst (λ (o : Option ℕ). Calls set (callee_at set Static (record { is_interface = true; member = m }) o) call) (sym k)
       (by_test true m call n k (is_interface_view (class_at set n)) h (sym (same_view (class_at set n))) s)
   by_number false m call (Some n) k e h s =
-      subst (λ (o : Option ℕ). Calls set (callee_at set Static (record { is_interface = false; member = m }) o) call) (sym (owners set loaded m.owner m.name n k))
+      subst (λ (o : Option ℕ). Calls set (callee_at set Static (record { is_interface = false; member = m }) o) call) (sym k)
       (by_test false m call n k (not (is_interface_view (class_at set n))) h (ap not (sym (same_view (class_at set n)))) s)
 
   by_member : (of_interface : Bool) (o : Option Member) (call : Call) → static_member set of_interface o ≡ Some call → Calls set (callee set Static (named of_interface o)) call
   by_member of_interface None call e = absurd (none_is call e)
   by_member of_interface (Some m) call e =
-      let w = when_so (has_static set of_interface m (class_number set m.owner)) m call e in
-      by_number of_interface m call (class_number set m.owner) refl e w.0 w.1
+      let w = when_so (has_static set of_interface m (owner_number set m.owner m.name)) m call e in
+      by_number of_interface m call (owner_number set m.owner m.name) refl e w.0 w.1
 
   by_entry : (slots : Slots) (o : Option Entry) (call : Call) → static_entry set slots o ≡ Some call → Calls set (callee set Static (named_in slots o)) call
   by_entry slots (Some (entry.MethodRef owner member)) call e = by_member false (typed_in slots (name_in slots (entry_at slots owner)) (entry_at slots member)) call e

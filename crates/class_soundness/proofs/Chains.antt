@@ -6,8 +6,8 @@ use Rattle.class_file.specs.declared.class.VType.{VType}
 use Rattle.class_file.specs.declared.class.VType.TheVariants as vtype
 use Rattle.class_file.specs.declared.class.Set.{Set}
 use Rattle.class_file.specs.Pools.{is_text}
-use Rattle.class_file.specs.Classes.{Element, built_ins, class_at, superclass, or_none, chain, chain_up_to, class_count}
-use Rattle.class_file.specs.Members.{assignable, reference_below, below_element, element_below, named_reference, is_interface_view, is_root, is_member, is_zero}
+use Rattle.class_file.specs.Classes.{Element, built_ins, class_at, superclass, or_none, chain, chain_up_to, class_count, named_type}
+use Rattle.class_file.specs.Members.{assignable, reference_below, below_element, element_below, is_interface_view, is_root, is_member, is_zero}
 use Rattle.class_soundness.specs.Soundness.{IsLoaded}
 use Rattle.class_soundness.proofs.Loaded.{whole, interfaces}
 use Rattle.class_soundness.proofs.Found.{text_same}
@@ -45,11 +45,11 @@ not_both false e f = cc
 
 -- ---- what is so in every set
 
-text_number : (set : Set) → named_reference set text_name ≡ Some (record { class = 1; dimensions = 0 })
+text_number : (set : Set) → named_type set text_name ≡ Some (record { class = 1; dimensions = 0 })
 unfolding built_ins
 text_number set = refl
 
-throwable_number : (set : Set) → named_reference set throwable_name ≡ Some (record { class = 7; dimensions = 0 })
+throwable_number : (set : Set) → named_type set throwable_name ≡ Some (record { class = 7; dimensions = 0 })
 unfolding built_ins
 throwable_number set = refl
 
@@ -198,12 +198,12 @@ module _ (set : Set) (loaded : IsLoaded set) where
   -- what is below a type is below what that is below
   pub reference_through : (a b c : List ℕ) → reference_below set a b ≡ true → reference_below set b c ≡ true → reference_below set a c ≡ true
   reference_through a b c e h =
-      by (either (is_text a b) (below_element set (named_reference set a) (named_reference set b)) e) (either (is_text b c) (below_element set (named_reference set b) (named_reference set c)) h)
+      by (either (is_text a b) (below_element set (named_type set a) (named_type set b)) e) (either (is_text b c) (below_element set (named_type set b) (named_type set c)) h)
     where
-      by : Either (is_text a b) (below_element set (named_reference set a) (named_reference set b)) → Either (is_text b c) (below_element set (named_reference set b) (named_reference set c)) → reference_below set a c ≡ true
+      by : Either (is_text a b) (below_element set (named_type set a) (named_type set b)) → Either (is_text b c) (below_element set (named_type set b) (named_type set c)) → reference_below set a c ≡ true
       by (First k) q = subst (λ (n : List ℕ). reference_below set n c ≡ true) (sym (text_same a b k)) h
       by (Second k) (First q) = subst (λ (n : List ℕ). reference_below set a n ≡ true) (text_same b c q) e
-      by (Second k) (Second q) = or_right (is_text a c) (below_element set (named_reference set a) (named_reference set c)) (elements_through (named_reference set a) (named_reference set b) (named_reference set c) k q)
+      by (Second k) (Second q) = or_right (is_text a c) (below_element set (named_type set a) (named_type set c)) (elements_through (named_type set a) (named_type set b) (named_type set c) k q)
 
   -- a type below one that only texts are of is one too
   pub text_below : (b c : List ℕ) → reference_below set b c ≡ true → is_text_type set c ≡ true → is_text_type set b ≡ true
@@ -247,15 +247,15 @@ module _ (set : Set) (loaded : IsLoaded set) where
   self_below : (n : ℕ) → element_below set n 0 n 0 ≡ true
   self_below n = or_right (is_root set n) (is_member n (chain set n)) (itself n)
 
-  as_element : (name wanted : List ℕ) (n : ℕ) → named_reference set wanted ≡ Some (record { class = n; dimensions = 0 }) → reference_below set name wanted ≡ true → below_element set (named_reference set name) (Some (record { class = n; dimensions = 0 })) ≡ true
-  as_element name wanted n k e = by (either (is_text name wanted) (below_element set (named_reference set name) (named_reference set wanted)) e)
+  as_element : (name wanted : List ℕ) (n : ℕ) → named_type set wanted ≡ Some (record { class = n; dimensions = 0 }) → reference_below set name wanted ≡ true → below_element set (named_type set name) (Some (record { class = n; dimensions = 0 })) ≡ true
+  as_element name wanted n k e = by (either (is_text name wanted) (below_element set (named_type set name) (named_type set wanted)) e)
     where
-      by : Either (is_text name wanted) (below_element set (named_reference set name) (named_reference set wanted)) → below_element set (named_reference set name) (Some (record { class = n; dimensions = 0 })) ≡ true
-      by (First q) = subst (λ (o : Option Element). below_element set o (Some (record { class = n; dimensions = 0 })) ≡ true) (sym (ap (named_reference set) (text_same name wanted q) ∙ k)) (self_below n)
-      by (Second q) = subst (λ (o : Option Element). below_element set (named_reference set name) o ≡ true) k q
+      by : Either (is_text name wanted) (below_element set (named_type set name) (named_type set wanted)) → below_element set (named_type set name) (Some (record { class = n; dimensions = 0 })) ≡ true
+      by (First q) = subst (λ (o : Option Element). below_element set o (Some (record { class = n; dimensions = 0 })) ≡ true) (sym (ap (named_type set) (text_same name wanted q) ∙ k)) (self_below n)
+      by (Second q) = subst (λ (o : Option Element). below_element set (named_type set name) o ≡ true) k q
 
   pub thrown_no_text : (name : List ℕ) → reference_below set name throwable_name ≡ true → is_text_type set name ≡ true → ⊥
-  thrown_no_text name e h = apart_elements (named_reference set name) (as_element name throwable_name 7 (throwable_number set) e) (as_element name text_name 1 (text_number set) h)
+  thrown_no_text name e h = apart_elements (named_type set name) (as_element name throwable_name 7 (throwable_number set) e) (as_element name text_name 1 (text_number set) h)
 
   -- ---- boxes are no texts
 
@@ -266,5 +266,5 @@ module _ (set : Set) (loaded : IsLoaded set) where
       apart true e f = absurd cc
       apart false e f = cc
 
-  pub box_no_text : (name : List ℕ) (n : ℕ) → named_reference set name ≡ Some (record { class = n; dimensions = 0 }) → superclass set n ≡ Some 0 → eqb n 1 ≡ false → is_text_type set name ≡ true → ⊥
+  pub box_no_text : (name : List ℕ) (n : ℕ) → named_type set name ≡ Some (record { class = n; dimensions = 0 }) → superclass set n ≡ Some 0 → eqb n 1 ≡ false → is_text_type set name ≡ true → ⊥
   box_no_text name n k a d h = number_no_text n a d (subst (λ (o : Option Element). below_element set o (Some (record { class = 1; dimensions = 0 })) ≡ true) k (as_element name text_name 1 (text_number set) h))

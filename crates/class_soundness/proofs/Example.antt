@@ -12,7 +12,7 @@ use Rattle.class_file.specs.Pools.{is_text}
 use Rattle.class_file.specs.Classes.{built_ins, method_view, object_name, is_abstract_flag, is_interface_flag}
 use Rattle.class_file.specs.Lots.{in_first_lot}
 use Rattle.class_file.specs.Machine.{main_method}
-use Rattle.class_file.specs.Members.{is_array_name}
+use Rattle.class_file.specs.Descriptors.{is_array_name}
 use Rattle.class_file.specs.Typing.{Types}
 use Rattle.class_file.specs.Verification.{Verifies, MethodVerifies, IsTyped, Passes, first_types, given_at, starts}
 use Rattle.class_soundness.specs.Soundness.{HasMain, IsLoaded, IsFlat, LawIsOfSomeSet}

@@ -1,26 +1,24 @@
 -- What follows from what loading has looked at.
-use Rattle.std.proofs.Common.{◌≡◌, ℕ, zero, suc, ◌-◌, ◌<◌, Bool, true, false, cond, List, [], ◌∷◌, Option, Some, None, refl, sym, ap, ◌∙◌, arith, eqb, position, get_or}
-use Rattle.std.specs.Prelude.{slice_get, ◌&&◌, ◌||◌, not, nat_lt}
+use Rattle.std.proofs.Common.{◌≡◌, ℕ, zero, suc, ◌-◌, ◌<◌, Bool, true, false, cond, List, [], ◌∷◌, Option, Some, None, refl, ap, ◌∙◌, arith, position, get_or}
+use Rattle.std.specs.Prelude.{slice_get, ◌||◌, not, nat_lt}
 use Rattle.std.specs.List.{list_all}
-use Rattle.std.specs.Option.{option_map}
 use Rattle.std.proofs.lemmas.Option.{slice_get-get_or}
 use Rattle.std.proofs.lemmas.List.Quantifiers.{position-Some}
 use Rattle.class_file.specs.declared.class.ClassFile.{ClassFile}
 use Rattle.class_file.specs.declared.class.Set.{Set}
 use Rattle.class_file.specs.Pools.{is_text}
-use Rattle.class_file.specs.Classes.{ClassView, built_ins, class_at, viewed, class_number, class_named, number_of_place, or_else, owner_number, superclass, superclass_in, number_in, or_none, chain, chain_up_to, class_count, object_class, object_name, is_special_name}
-use Rattle.class_file.specs.Members.{is_interface_view, is_array_name}
+use Rattle.class_file.specs.Classes.{ClassView, built_ins, class_at, viewed, class_number, superclass, superclass_in, number_in, or_none, chain, chain_up_to, class_count, object_class, object_name}
+use Rattle.class_file.specs.Members.{is_interface_view}
 use Rattle.class_soundness.specs.Soundness.{IsLoaded}
-use Rattle.class_soundness.proofs.Tests.{both_true}
-use Rattle.class_soundness.proofs.Found.{text_same, all_at, none_is, not_true}
+use Rattle.class_soundness.proofs.Found.{text_same, all_at}
 
 abbrev is_object : Option (List ℕ) → Bool
 is_object (Some name) = is_text name object_name
 is_object None = false
 
--- no built-in class has the name of an array, and each interface is right below Object
+-- an interface is right below Object
 abbrev is_usual : ClassView → Bool
-is_usual c = not (is_array_name c.name) && (not c.is_interface || is_object c.super)
+is_usual c = not c.is_interface || is_object c.super
 
 all_usual : list_all is_usual built_ins ≡ true
 unfolding built_ins
@@ -59,7 +57,7 @@ module _ (set : Set) (loaded : IsLoaded set) where
       by_view : (o : Option ClassView) → slice_get built_ins n ≡ o → is_interface_view o ≡ true → superclass_in set o ≡ Some object_class
       by_view None k e = absurd cc
       by_view (Some c) k e =
-          object_above c.super (implied c.is_interface (is_object c.super) e (both_true (not (is_array_name c.name)) (not c.is_interface || is_object c.super) (all_at is_usual built_ins n c all_usual k)).1)
+          object_above c.super (implied c.is_interface (is_object c.super) e (all_at is_usual built_ins n c all_usual k))
 
       by_file : (o : Option ClassFile) → slice_get set.classes (n - 37) ≡ o → is_interface_view (viewed (n - 37) o) ≡ true → superclass_in set (viewed (n - 37) o) ≡ Some object_class
       by_file None k e = absurd cc
@@ -87,28 +85,3 @@ module _ (set : Set) (loaded : IsLoaded set) where
       by : (o : Option ℕ) → n ∷ or_none o (chain_up_to (class_count set) set) ≡ n ∷ or_none o (chain set)
       by None = refl
       by (Some m) = let low = loaded.heights.bounded m in ap (λ (ns : List ℕ). n ∷ ns) (same_chain (class_count set) (suc (class_count set)) m (omega arith) (omega arith))
-
-  -- ---- the owners of methods
-
-  no_array : (name : List ℕ) (n : ℕ) → class_number set name ≡ Some n → is_array_name name ≡ false
-  no_array name n e = by_table (position (λ (c : ClassView). is_text c.name name) built_ins) refl e
-    where
-      by_set : (o : Option ℕ) → class_named name set.classes ≡ o → option_map number_of_place o ≡ Some n → is_array_name name ≡ false
-      by_set None k e = absurd (none_is n e)
-      by_set (Some i) k e =
-          let s = stands (λ (c : ClassFile). is_text c.this_name name) set.classes i k in
-          sym (ap is_array_name (text_same s.x.this_name name s.passes)) ∙ loaded.names i s.x s.at
-
-      by_table : (o : Option ℕ) → position (λ (c : ClassView). is_text c.name name) built_ins ≡ o → or_else o (option_map number_of_place (class_named name set.classes)) ≡ Some n → is_array_name name ≡ false
-      by_table None k e = by_set (class_named name set.classes) refl e
-      by_table (Some i) k e =
-          let s = stands (λ (c : ClassView). is_text c.name name) built_ins i k in
-          sym (ap is_array_name (text_same s.x.name name s.passes)) ∙ not_true (is_array_name s.x.name) (both_true (not (is_array_name s.x.name)) (not s.x.is_interface || is_object s.x.super) (all_at is_usual built_ins i s.x all_usual s.at)).0
-
-  pub owners : (name method : List ℕ) (n : ℕ) → class_number set name ≡ Some n → owner_number set name method ≡ Some n
-  owners [] method n e = e
-  owners (u ∷ us) method n e = by (eqb u 91) (no_array (u ∷ us) n e)
-    where
-      by : (b : Bool) → b ≡ false → cond b (cond (is_special_name method) None (Some object_class)) (class_number set (u ∷ us)) ≡ Some n
-      by true k = absurd cc
-      by false k = e

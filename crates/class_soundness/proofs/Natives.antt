@@ -9,10 +9,10 @@ use Rattle.class_file.specs.declared.value.NativeId.TheVariants as native_is
 use Rattle.class_file.specs.declared.value.BuiltIn.TheVariants as built_in
 use Rattle.class_file.specs.declared.class.Set.{Set}
 use Rattle.class_file.specs.Descriptors.{FieldType, IntType, CharType, BooleanType, LongType, Reference, Signature, signature}
-use Rattle.class_file.specs.Classes.{built_ins, superclass}
+use Rattle.class_file.specs.Classes.{built_ins, superclass, named_type}
 use Rattle.class_file.specs.Natives.{Object, TextObject, NativeEffect, Gives, Makes, SetsFirst, Writes, ReadsLine, NativeThrows, NativeFails, native_effect, text_of, on_text, on_texts, given_text, text_argument, TextArgument, IsNull, NoText, both_texts, as_text, unit_at_index, part_of, number, new_text}
 use Rattle.class_file.specs.Natives as native
-use Rattle.class_file.specs.Members.{type_of_field, named_reference}
+use Rattle.class_file.specs.Members.{type_of_field}
 use Rattle.class_file.specs.Typing.{result_types}
 use Rattle.class_soundness.specs.Soundness.{IsLoaded}
 use Rattle.class_soundness.proofs.Fits.{Has, Fits, IsText, new_text_is}
@@ -178,7 +178,7 @@ module _ (set : Set) (loaded : IsLoaded set) where
   read_right heap [] h = refl
   read_right heap (v ∷ vs) h = absurd h
 
-  integer_number : named_reference set (codes "java/lang/Integer") ≡ Some (record { class = 2; dimensions = 0 })
+  integer_number : named_type set (codes "java/lang/Integer") ≡ Some (record { class = 2; dimensions = 0 })
   unfolding built_ins
   integer_number = refl
 
@@ -193,7 +193,7 @@ module _ (set : Set) (loaded : IsLoaded set) where
   integer_box_right heap (_ ∷ more) h = absurd h.0
   integer_box_right heap [] h = absurd h
 
-  long_number : named_reference set (codes "java/lang/Long") ≡ Some (record { class = 3; dimensions = 0 })
+  long_number : named_type set (codes "java/lang/Long") ≡ Some (record { class = 3; dimensions = 0 })
   unfolding built_ins
   long_number = refl
 
@@ -208,7 +208,7 @@ module _ (set : Set) (loaded : IsLoaded set) where
   long_box_right heap (_ ∷ more) h = absurd h.0
   long_box_right heap [] h = absurd h
 
-  character_number : named_reference set (codes "java/lang/Character") ≡ Some (record { class = 4; dimensions = 0 })
+  character_number : named_type set (codes "java/lang/Character") ≡ Some (record { class = 4; dimensions = 0 })
   unfolding built_ins
   character_number = refl
 
@@ -223,7 +223,7 @@ module _ (set : Set) (loaded : IsLoaded set) where
   character_box_right heap (_ ∷ more) h = absurd h.0
   character_box_right heap [] h = absurd h
 
-  boolean_number : named_reference set (codes "java/lang/Boolean") ≡ Some (record { class = 5; dimensions = 0 })
+  boolean_number : named_type set (codes "java/lang/Boolean") ≡ Some (record { class = 5; dimensions = 0 })
   unfolding built_ins
   boolean_number = refl
 

@@ -127,7 +127,7 @@ module _ (set : Set) (is_loaded : IsLoaded set) (covered : IsCovered set) (ver :
     invoked_fine : (i : ℕ) (o : Option members.Call) (after_ : Types) → row_of f.at r.start.instr ≡ row.InvokeStatic i → members.static_call set r.placed.c i ≡ o → t_call set now o ≡ Ok after_ → to_next after_ → Fine set is_loaded ver (invoked set s f fs next Static (resolve set Static f.class i))
     invoked_fine i None after_ ri k e to = absurd (no_verdict WrongType after_ e)
     invoked_fine i (Some call) after_ ri k e to =
-        let c = calls set is_loaded f.class r.placed.c i call r.placed.class_is k in
+        let c = calls set f.class r.placed.c i call r.placed.class_is k in
         let e2 : t_call set now (Some (call_of c.to.signature)) ≡ Ok after_ = subst (λ (x : members.Call). t_call set now (Some x) ≡ Ok after_) (sym c.call_is) e in
         let x : Types = record { locals = now.locals; stack = result_types (call_of c.to.signature).result ++ drop (length (call_of c.to.signature).params) now.stack; unset = now.unset } in
         let p = refuses_not (misuses set (reverse (call_of c.to.signature).params) now.stack) (Ok x) after_ e2 in

@@ -12,10 +12,10 @@ use Rattle.class_file.specs.declared.class.Field.{Field}
 use Rattle.class_file.specs.Pools.{is_text}
 use Rattle.class_file.specs.declared.class.Set.{Set}
 use Rattle.class_file.specs.Descriptors.{FieldType, IntType, CharType, BooleanType, LongType, Reference, field_type}
-use Rattle.class_file.specs.Classes.{FieldView, ClassView, static_fields, field_view, fields_in, initial_value, built_ins, viewed, superclass, class_count, is_static_flag}
+use Rattle.class_file.specs.Classes.{FieldView, ClassView, static_fields, field_view, fields_in, initial_value, built_ins, viewed, superclass, class_count, is_static_flag, named_type}
 use Rattle.class_file.specs.Natives.{Object}
 use Rattle.class_file.specs.Machine.{statics_in, first_heap, first_statics, first_statics_from, static_values}
-use Rattle.class_file.specs.Members.{type_of_field, named_reference}
+use Rattle.class_file.specs.Members.{type_of_field}
 use Rattle.class_soundness.specs.Soundness.{IsLoaded}
 use Rattle.class_soundness.proofs.Tests.{both_true}
 use Rattle.class_soundness.proofs.Found.{some_same, text_same, all_at}
@@ -87,7 +87,7 @@ all_unit : list_all (λ (c : ClassView). list_all is_unit_field c.fields) built_
 unfolding built_ins
 all_unit = refl
 
-unit_is : (set : Set) → named_reference set (codes "kotlin/Unit") ≡ Some (record { class = 27; dimensions = 0 })
+unit_is : (set : Set) → named_type set (codes "kotlin/Unit") ≡ Some (record { class = 27; dimensions = 0 })
 unfolding built_ins
 unit_is set = refl
 

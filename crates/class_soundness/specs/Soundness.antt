@@ -10,7 +10,8 @@ use Rattle.class_file.specs.declared.class.VType.{VType}
 use Rattle.class_file.specs.Rows.{row_of}
 use Rattle.class_file.specs.Pools.{is_text}
 use Rattle.class_file.specs.Classes.{Coded, FoundMethod, is_abstract_flag, superclass, class_count, object_name, is_interface_flag}
-use Rattle.class_file.specs.Members.{assignable, is_array_name}
+use Rattle.class_file.specs.Descriptors.{is_array_name}
+use Rattle.class_file.specs.Members.{assignable}
 use Rattle.class_file.specs.Machine.{Over, Stuck, machine, fetch, main_method}
 use Rattle.class_file.specs.Verification.{Verifies, starts}
 use Rattle.class_file.specs.Lots.{in_first_lot}

@@ -2,3 +2,4 @@ pub mod Places
 pub mod Law
 pub mod Loop
 pub mod Marks
+pub mod FrameTable

@@ -1,7 +1,6 @@
 // The frames of a method.
-ghost use Rattle.std.specs.Prelude.{◌≡◌, ◌++◌, ◌∷◌, ◌-◌, ◌==◌, [], length, map, reverse, replicate, codes, OnOk, IfOk};
-ghost use Rattle.verifier.specs.Flags.{frame_for};
-ghost use Rattle.std.specs.Option.{option_map, option_copied};
+ghost use Rattle.std.specs.Prelude.{◌≡◌, ◌++◌, ◌∷◌, ◌-◌, [], length, map, reverse, replicate, codes, OnOk, IfOk};
+ghost use Rattle.std.specs.Option.{option_map};
 ghost use Rattle.class_file.specs.declared.class.VType.TheVariants as vtype;
 ghost use Rattle.class_file.specs.Members.{described};
 ghost use Rattle.class_file.specs.Verification.{spread, padded, types_given, given_in, given_at, is_static, is_constructor, receiver_types, first_types};
@@ -10,6 +9,7 @@ ghost use Rattle.verifier_types.specs.Seen.{type_of};
 ghost use Rattle.verifier_types.specs.Frames.{shown};
 ghost use Rattle.verifier_types.specs.Calls.{call_seen};
 
+use crate::tabled::TabledMethod;
 use class_file::class::{ClassFile, Frame, Method, VType};
 use kc_text::Memory;
 use std::alloc::Global;
@@ -78,19 +78,18 @@ fn known_of<'a>(alloc: Global, max: usize, frame: &'a Frame) -> Result<Known<'a>
     })
 }
 
-fn frame_at(frames: &[Frame], pc: usize) -> Option<&Frame>
-    ensures { option_copied result ≡ frame_for frames.now pc }
-{
-    frames.iter().find(|frame| frame.at == pc)
-}
-
 /// The types that a given frame says for a place.
-pub fn given<'a>(alloc: Global, method: &'a Method, pc: usize) -> Result<Option<Known<'a>>, Memory>
+pub fn given<'a>(
+    alloc: Global,
+    method: &TabledMethod<'a>,
+    pc: usize,
+) -> Result<Option<Known<'a>>, Memory>
     ensures { IfOk result (λ known. option_map shown known ≡ given_at method.now pc) }
 {
-    match frame_at(method.frames.as_slice(), pc) {
+    let max_locals = method.as_method().max_locals as usize;
+    match method.frame_at(pc) {
         None => Ok(None),
-        Some(frame) => Ok(Some(known_of(alloc, method.max_locals as usize, frame)?)),
+        Some(frame) => Ok(Some(known_of(alloc, max_locals, frame)?)),
     }
 }
 

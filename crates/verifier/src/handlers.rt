@@ -4,15 +4,16 @@ ghost use Rattle.std.specs.Option.{option_copied, option_map};
 ghost use Rattle.class_file.specs.Rows.{length_of};
 ghost use Rattle.class_file.specs.Verification.{starts, covers, caught, is_throwable, is_good_row, is_caught, all_rows, all_caught, code_length, fits_handler, given_at, rows_fault};
 ghost use Rattle.verifier_types.specs.Frames.{shown};
-ghost use Rattle.verifier.specs.Flags.{flags_of};
 
-use crate::flow::starts;
 use crate::frames::given;
-use class_file::class::{ClassFile, Handler, Method, Set};
+use crate::tabled::TabledMethod;
+use class_file::class::{ClassFile, Handler};
 use class_file::verify_code::VerifyCode;
 use kc_text::{Memory, Text};
 use std::alloc::Global;
-use verifier_types::{Known, VerificationType, assignable, is_thrown_assignable, name_at};
+use verifier_types::{
+    Known, NamedSet, VerificationType, assignable, is_thrown_assignable, name_at,
+};
 
 static THROWABLE: [u16; 19] = [
     106, 97, 118, 97, 47, 108, 97, 110, 103, 47, 84, 104, 114, 111, 119, 97, 98, 108, 101,
@@ -37,7 +38,7 @@ fn caught<'a>(class: &'a ClassFile, handler: &Handler) -> Option<&'a [u16]>
     }
 }
 
-fn is_throwable(set: &Set, name: Option<&[u16]>) -> bool
+fn is_throwable(set: &NamedSet, name: Option<&[u16]>) -> bool
     ensures { result ≡ is_throwable set.now (option_copied name.entry) }
 {
     match name {
@@ -50,61 +51,39 @@ fn is_throwable(set: &Set, name: Option<&[u16]>) -> bool
     }
 }
 
-fn code_length(_method: &Method, flags: &[bool]) -> usize
-    requires { flags.now ≡ flags_of _method.now.code }
-    ensures { result ≡ code_length _method.now.code }
-{
-    flags.len()
-}
-
 // The start of an instruction, or the code's end.
-fn ends_range(method: &Method, flags: &[bool], end: usize) -> bool
-    requires { flags.now ≡ flags_of method.now.code }
+fn ends_range(method: &TabledMethod, end: usize) -> bool
     ensures { result ≡ (starts method.now end || end == code_length method.now.code) }
 {
-    if starts(method, flags, end) {
+    if method.starts(end) {
         return true;
     }
-    end == code_length(method, flags)
+    end == method.code_length()
 }
 
-fn is_good_row(
-    set: &Set,
-    class: &ClassFile,
-    method: &Method,
-    flags: &[bool],
-    handler: &Handler,
-) -> bool
-    requires { flags.now ≡ flags_of method.now.code }
+fn is_good_row(set: &NamedSet, class: &ClassFile, method: &TabledMethod, handler: &Handler) -> bool
     ensures { result ≡ is_good_row set.now class.now method.now handler.now }
 {
     if handler.start >= handler.end {
         return false;
     }
-    if !starts(method, flags, handler.start) {
+    if !method.starts(handler.start) {
         return false;
     }
-    if !ends_range(method, flags, handler.end) {
+    if !ends_range(method, handler.end) {
         return false;
     }
-    if !starts(method, flags, handler.at) {
+    if !method.starts(handler.at) {
         return false;
     }
     is_throwable(set, caught(class, handler))
 }
 
-fn all_rows(
-    set: &Set,
-    class: &ClassFile,
-    method: &Method,
-    flags: &[bool],
-    handlers: &[Handler],
-) -> bool
-    requires { flags.now ≡ flags_of method.now.code }
+fn all_rows(set: &NamedSet, class: &ClassFile, method: &TabledMethod, handlers: &[Handler]) -> bool
     ensures { result ≡ all_rows set.now class.now method.now handlers.now }
 {
     for handler in handlers {
-        if !is_good_row(set, class, method, flags, handler) {
+        if !is_good_row(set, class, method, handler) {
             return false;
         }
     }
@@ -113,16 +92,14 @@ fn all_rows(
 
 /// `BadHandler` at the first instruction where a row of the exception table is wrong.
 pub fn rows_fault(
-    set: &Set,
+    set: &NamedSet,
     class: &ClassFile,
-    method: &Method,
-    flags: &[bool],
+    method: &TabledMethod,
     pc: usize,
 ) -> Option<VerifyCode>
-    requires { flags.now ≡ flags_of method.now.code }
     ensures { result ≡ rows_fault set.now class.now method.now pc }
 {
-    if pc != 0 || all_rows(set, class, method, flags, method.handlers.as_slice()) {
+    if pc != 0 || all_rows(set, class, method, method.as_method().handlers.as_slice()) {
         None
     } else {
         Some(VerifyCode::BadHandler)
@@ -131,9 +108,9 @@ pub fn rows_fault(
 
 fn is_caught(
     alloc: Global,
-    set: &Set,
+    set: &NamedSet,
     class: &ClassFile,
-    method: &Method,
+    method: &TabledMethod,
     pc: usize,
     known: &Known,
     handler: &Handler,
@@ -155,15 +132,15 @@ fn is_caught(
 /// Is what is known before an instruction assignable to the frames of the handlers that it may be thrown to?
 pub fn all_caught(
     alloc: Global,
-    set: &Set,
+    set: &NamedSet,
     class: &ClassFile,
-    method: &Method,
+    method: &TabledMethod,
     pc: usize,
     known: &Known,
 ) -> Result<bool, Memory>
     ensures { IfOk result (λ are. are ≡ all_caught set.now class.now method.now pc (shown known.now) method.now.handlers) }
 {
-    for handler in method.handlers.as_slice() {
+    for handler in method.as_method().handlers.as_slice() {
         if !is_caught(alloc, set, class, method, pc, known, handler)? {
             return Ok(false);
         }

@@ -6,6 +6,8 @@ mod frames;
 mod handlers;
 mod lot;
 mod scan;
+mod tabled;
+mod tables;
 #[cfg(test)]
 mod tests;
 mod verified;

@@ -7,24 +7,23 @@ ghost use Rattle.class_file.specs.Verification.{flow_fault, start_fault, enterin
 ghost use Rattle.verifier_types.specs.Frames.{shown};
 ghost use Rattle.verifier_types.specs.Calls.{call_seen};
 ghost use Rattle.class_file.specs.Lots.{in_first_lot};
-ghost use Rattle.verifier.specs.Flags.{flags_of, IsMarked};
 ghost use Rattle.verifier.specs.Turns.{turn_of};
 ghost use Rattle.verifier.specs.Answers.{InLot, place_seen};
 
 use crate::flow::{
-    fall_fault, flags_of, frame_fault, goes_on, jump_frame_fault, jump_of, marks_of, needs_frame,
-    next_frame_fault, target_fault,
+    fall_fault, frame_fault, goes_on, jump_frame_fault, jump_of, next_frame_fault, target_fault,
 };
 use crate::frames::{first_types, given};
 use crate::handlers::{all_caught, rows_fault};
-use class_file::class::{ClassFile, Method, Set};
+use crate::tabled::TabledMethod;
+use class_file::class::{ClassFile, Method};
 use class_file::instr::Instr;
 use class_file::row::Row;
 use class_file::table::{length_of, row_of};
 use class_file::verify_code::VerifyCode;
 use kc_text::Memory;
 use std::alloc::Global;
-use verifier_types::{Call, Known, described, step};
+use verifier_types::{Call, Known, NamedSet, described, step};
 
 /// What one instruction comes to.
 #[derive(Drop)]
@@ -43,76 +42,69 @@ pub struct Place {
 
 fn start_fault(
     alloc: Global,
-    set: &Set,
+    set: &NamedSet,
     class: &ClassFile,
-    method: &Method,
-    flags: &[bool],
+    method: &TabledMethod,
     call: &Call,
     pc: usize,
 ) -> Result<Option<VerifyCode>, Memory>
-    requires flags { flags.now ≡ flags_of method.now.code }
     requires call { call_seen call.now ≡ described method.now.descriptor }
     ensures { IfOk result (λ fault. fault ≡ start_fault set.now class.now method.now pc) }
 {
     if pc != 0 {
         return Ok(None);
     }
-    let first = first_types(alloc, class, method, call)?;
-    frame_fault(alloc, set, method, flags, &first, 0)
+    let first = first_types(alloc, class, method.as_method(), call)?;
+    frame_fault(alloc, set, method, &first, 0)
 }
 
 fn flow_fault(
     alloc: Global,
-    set: &Set,
+    set: &NamedSet,
     class: &ClassFile,
-    method: &Method,
-    flags: &[bool],
+    method: &TabledMethod,
     pc: usize,
     row: Row,
     next: usize,
     is_safe: bool,
     after: &Known,
 ) -> Result<Option<VerifyCode>, Memory>
-    requires flags { flags.now ≡ flags_of method.now.code }
     requires lot { in_first_lot row ≡ true }
     ensures { IfOk result (λ fault. fault ≡ flow_fault set.now class.now method.now pc row next is_safe (shown after.now)) }
 {
     let jump = jump_of(row);
     let goes = goes_on(row);
-    if let Some(code) = jump_frame_fault(alloc, set, method, flags, after, jump)? {
+    if let Some(code) = jump_frame_fault(alloc, set, method, after, jump)? {
         return Ok(Some(code));
     }
-    if let Some(code) = next_frame_fault(alloc, set, method, flags, after, goes, next)? {
+    if let Some(code) = next_frame_fault(alloc, set, method, after, goes, next)? {
         return Ok(Some(code));
     }
-    if let Some(code) = target_fault(method, flags, jump) {
+    if let Some(code) = target_fault(method, jump) {
         return Ok(Some(code));
     }
-    if let Some(code) = rows_fault(set, class, method, flags, pc) {
+    if let Some(code) = rows_fault(set, class, method, pc) {
         return Ok(Some(code));
     }
     if !is_safe {
         return Ok(Some(VerifyCode::BadHandler));
     }
-    Ok(fall_fault(method, flags, goes, next))
+    Ok(fall_fault(method, goes, next))
 }
 
 // The types before an instruction, from what the one before it leaves.
 fn entering<'a>(
     alloc: Global,
-    method: &'a Method,
-    marks: &[bool],
+    method: &TabledMethod<'a>,
     pc: usize,
     flow: Option<Known<'a>>,
 ) -> Result<Option<Known<'a>>, Memory>
-    requires codes { length method.now.code < 2 ^ 28 }
-    requires marks { IsMarked marks.now method.now }
     ensures { IfOk result (λ known. option_map shown known ≡ entering_at method.now pc (option_map shown flow.entry)) }
 {
     if let Some(known) = given(alloc, method, pc)? {
         return Ok(Some(known));
     }
-    if needs_frame(method, marks, pc) {
+    if method.needs_frame(pc) {
         return Ok(None);
     }
     Ok(flow)
@@ -120,17 +112,15 @@ fn entering<'a>(
 
 fn one_instruction<'a>(
     alloc: Global,
-    set: &Set,
+    set: &NamedSet,
     class: &'a ClassFile,
-    method: &'a Method,
-    flags: &[bool],
+    method: &TabledMethod<'a>,
     call: &Call<'a>,
     pc: usize,
     instr: &Instr,
     entering: Option<Known<'a>>,
 ) -> Result<Turn<'a>, Memory>
     requires small { pc < 2 ^ 32 }
-    requires flags { flags.now ≡ flags_of method.now.code }
     requires call { call_seen call.now ≡ described method.now.descriptor }
     requires lot { InLot instr.now }
     ensures { IfOk result (λ done. turn_of set.now class.now method.now pc instr.now (option_map shown entering.entry) done) }
@@ -138,18 +128,25 @@ fn one_instruction<'a>(
     let Some(mut known) = entering else {
         return Ok(Turn::Fails(VerifyCode::MissingFrame));
     };
-    if let Some(code) = start_fault(alloc, set, class, method, flags, call, pc)? {
+    if let Some(code) = start_fault(alloc, set, class, method, call, pc)? {
         return Ok(Turn::Fails(code));
     }
     let is_safe = all_caught(alloc, set, class, method, pc, &known)?;
     let row = row_of(pc, instr);
     let next = pc + length_of(instr);
-    if let Some(code) = step(alloc, set, class, method, pc, call.result, row, &mut known)? {
+    if let Some(code) = step(
+        alloc,
+        set,
+        class,
+        method.as_method(),
+        pc,
+        call.result,
+        row,
+        &mut known,
+    )? {
         return Ok(Turn::Fails(code));
     }
-    if let Some(code) = flow_fault(
-        alloc, set, class, method, flags, pc, row, next, is_safe, &known,
-    )? {
+    if let Some(code) = flow_fault(alloc, set, class, method, pc, row, next, is_safe, &known)? {
         return Ok(Turn::Fails(code));
     }
     Ok(Turn::Flows(if goes_on(row) { Some(known) } else { None }))
@@ -157,19 +154,14 @@ fn one_instruction<'a>(
 
 fn scan<'a>(
     alloc: Global,
-    set: &Set,
+    set: &NamedSet,
     class: &'a ClassFile,
-    method: &'a Method,
-    flags: &[bool],
-    marks: &[bool],
+    method: &TabledMethod<'a>,
     call: &Call<'a>,
     code: &[Instr],
     first: Known<'a>,
 ) -> Result<Option<Place>, Memory>
-    requires codes { length method.now.code < 2 ^ 28 }
     requires short { length code.now < 2 ^ 28 }
-    requires marks { IsMarked marks.now method.now }
-    requires flags { flags.now ≡ flags_of method.now.code }
     requires call { call_seen call.now ≡ described method.now.descriptor }
     requires lot { All InLot code.now }
     ensures { IfOk result (λ fault. option_map place_seen fault ≡ scan set.now class.now method.now code.now 0 (Some (shown first.entry))) }
@@ -177,8 +169,8 @@ fn scan<'a>(
     let mut pc = 0;
     let mut flow = Some(first);
     for instr in code {
-        let known = entering(alloc, method, marks, pc, flow)?;
-        match one_instruction(alloc, set, class, method, flags, call, pc, instr, known)? {
+        let known = entering(alloc, method, pc, flow)?;
+        match one_instruction(alloc, set, class, method, call, pc, instr, known)? {
             Turn::Fails(code) => return Ok(Some(Place { at: pc, code })),
             Turn::Flows(next) => flow = next,
         }
@@ -190,7 +182,7 @@ fn scan<'a>(
 /// The first fault of a method, if it has one.
 pub fn method_fault(
     alloc: Global,
-    set: &Set,
+    set: &NamedSet,
     class: &ClassFile,
     method: &Method,
 ) -> Result<Option<Place>, Memory>
@@ -198,17 +190,14 @@ pub fn method_fault(
     requires lot { All InLot method.now.code }
     ensures { IfOk result (λ fault. option_map place_seen fault ≡ method_fault set.now class.now method.now) }
 {
-    let flags = flags_of(alloc, method.code.as_slice())?;
-    let marks = marks_of(alloc, method, flags.len())?;
+    let tabled = TabledMethod::new(alloc, method)?;
     let call = described(alloc, &method.descriptor)?;
     let first = first_types(alloc, class, method, &call)?;
     scan(
         alloc,
         set,
         class,
-        method,
-        &flags,
-        &marks,
+        &tabled,
         &call,
         method.code.as_slice(),
         first,

@@ -1,19 +1,26 @@
 use crate::{is_first_lot, verify};
 use class_file::class::{ClassFile, Frame, Handler, Method, Set, VType};
 use class_file::instr::Instr;
-use class_file::pool::Pool;
-use class_file::verify_code::VerifyCode;
+use class_file::pool::{Entry, Pool};
+use class_file::verify_code::{VerifyCode, VerifyFault};
 use kc_text::{Fail, Memory, Text};
 use sqlite_items::Items;
 use std::alloc::Global;
 use std::test::Fail as Failed;
 
-// A frame of Ints: its place, and how many are in the local variables and on the stack.
+// What lies on a stack: so many Ints, or a thrown object.
 #[derive(Clone, Copy)]
-struct Ints {
+enum Lying {
+    Ints(usize),
+    Thrown,
+}
+
+// A frame: its place, how many Ints are in the local variables, and its stack.
+#[derive(Clone, Copy)]
+struct Given {
     at: usize,
     locals: usize,
-    stack: usize,
+    stack: Lying,
 }
 
 // A method and its first fault.
@@ -25,8 +32,18 @@ struct Sample<'a> {
     sizes: (u16, u16),
     code: &'a [Instr],
     handlers: &'a [Handler],
-    frames: &'a [Ints],
+    frames: &'a [Given],
     fault: Option<(usize, VerifyCode)>,
+}
+
+// Instructions that are each right between others, and the place of a frame without types, if there is one.
+#[derive(Clone, Copy)]
+struct Right<'a> {
+    descriptor: &'a str,
+    before: &'a [Instr],
+    each: &'a [Instr],
+    after: &'a [Instr],
+    frame: Option<usize>,
 }
 
 fn int_types(alloc: Global, count: usize) -> Result<Items<VType>, Memory> {
@@ -37,13 +54,24 @@ fn int_types(alloc: Global, count: usize) -> Result<Items<VType>, Memory> {
     Ok(types)
 }
 
-fn frames_of(alloc: Global, given: &[Ints]) -> Result<Items<Frame>, Memory> {
+fn stack_types(alloc: Global, stack: Lying) -> Result<Items<VType>, Memory> {
+    match stack {
+        Lying::Ints(count) => int_types(alloc, count),
+        Lying::Thrown => {
+            let mut types = Items::new(alloc);
+            types.push(VType::Object(Text::from_str(alloc, "java/lang/Throwable")?))?;
+            Ok(types)
+        }
+    }
+}
+
+fn frames_of(alloc: Global, given: &[Given]) -> Result<Items<Frame>, Memory> {
     let mut frames = Items::new(alloc);
     for frame in given {
         frames.push(Frame {
             at: frame.at,
             locals: int_types(alloc, frame.locals)?,
-            stack: int_types(alloc, frame.stack)?,
+            stack: stack_types(alloc, frame.stack)?,
             unset: false,
         })?;
     }
@@ -81,12 +109,42 @@ fn method_of(alloc: Global, row: &Sample) -> Result<Method, Memory> {
     })
 }
 
-fn set_of(alloc: Global, row: &Sample) -> Result<Set, Memory> {
+fn add(pool: &mut Pool, entry: Entry) -> Result<(), Memory> {
+    match pool.index(entry) {
+        Ok(_) => Ok(()),
+        Err(_) => Err(Memory),
+    }
+}
+
+// A text at 2, an Int at 3, a Long at 4, and `Console.write` at 11.
+fn pool_of(alloc: Global) -> Result<Pool, Memory> {
+    let mut pool = Pool::new(alloc);
+    add(&mut pool, Entry::Utf8(Text::from_str(alloc, "text")?))?;
+    add(&mut pool, Entry::Str(1))?;
+    add(&mut pool, Entry::Integer(70_000))?;
+    add(&mut pool, Entry::Long(7))?;
+    add(
+        &mut pool,
+        Entry::Utf8(Text::from_str(alloc, "kprof/rt/Console")?),
+    )?;
+    add(&mut pool, Entry::Class(6))?;
+    add(&mut pool, Entry::Utf8(Text::from_str(alloc, "write")?))?;
+    add(
+        &mut pool,
+        Entry::Utf8(Text::from_str(alloc, "(Ljava/lang/String;)V")?),
+    )?;
+    add(&mut pool, Entry::NameAndType(8, 9))?;
+    add(&mut pool, Entry::MethodRef(7, 10))?;
+    Ok(pool)
+}
+
+fn class_of(alloc: Global, rows: &[Sample]) -> Result<ClassFile, Memory> {
     let mut methods = Items::new(alloc);
-    methods.push(method_of(alloc, row)?)?;
-    let mut classes = Items::new(alloc);
-    classes.push(ClassFile {
-        pool: Pool::new(alloc),
+    for row in rows {
+        methods.push(method_of(alloc, row)?)?;
+    }
+    Ok(ClassFile {
+        pool: pool_of(alloc)?,
         flags: 0x0021,
         this_name: Text::from_str(alloc, "M")?,
         super_name: Text::from_str(alloc, "java/lang/Object")?,
@@ -94,35 +152,82 @@ fn set_of(alloc: Global, row: &Sample) -> Result<Set, Memory> {
         fields: Items::new(alloc),
         methods,
         others: Items::new(alloc),
-    })?;
+    })
+}
+
+fn set_of(alloc: Global, classes: &[&[Sample]]) -> Result<Set, Memory> {
+    let mut files = Items::new(alloc);
+    for rows in classes {
+        files.push(class_of(alloc, rows)?)?;
+    }
     Ok(Set {
-        classes,
+        classes: files,
         main: Text::from_str(alloc, "M")?,
     })
 }
 
-// Is this the answer for the row's set?
-fn answers(alloc: Global, row: &Sample) -> Result<bool, Memory> {
-    let set = set_of(alloc, row)?;
+// Is this the answer for these classes?
+fn answers(
+    alloc: Global,
+    classes: &[&[Sample]],
+    fault: Option<VerifyFault>,
+) -> Result<bool, Memory> {
+    let set = set_of(alloc, classes)?;
     if !is_first_lot(&set) {
         return Ok(false);
     }
     match verify(alloc, &set) {
-        Ok(_) => Ok(row.fault.is_none()),
-        Err(Fail::Found(found)) => match row.fault {
-            Some((at, code)) => Ok(
-                found.class == 0 && found.method == 0 && found.at == at && found.code == code,
-            ),
-            None => Ok(false),
-        },
+        Ok(_) => Ok(fault.is_none()),
+        Err(Fail::Found(found)) => Ok(fault == Some(found)),
         Err(Fail::Memory) => Err(Memory),
     }
+}
+
+// Is the row's fault told of a class with its method alone?
+fn is_told(alloc: Global, row: &Sample) -> Result<bool, Memory> {
+    let fault = match row.fault {
+        None => None,
+        Some((at, code)) => Some(VerifyFault {
+            class: 0,
+            method: 0,
+            at,
+            code,
+        }),
+    };
+    answers(alloc, &[&[*row]], fault)
+}
+
+fn are_taken(alloc: Global, row: &Right) -> Result<bool, Memory> {
+    for instr in row.each {
+        let mut code = Vec::from_slice(alloc, row.before)?;
+        code.push(*instr)?;
+        code.extend_from_slice(row.after)?;
+        let given = Given {
+            at: row.frame.unwrap_or(0),
+            locals: 0,
+            stack: Lying::Ints(0),
+        };
+        let sample = Sample {
+            name: "f",
+            descriptor: row.descriptor,
+            flags: 9,
+            sizes: (6, 6),
+            code: &code,
+            handlers: &[],
+            frames: &[given],
+            fault: None,
+        };
+        if !is_told(alloc, &sample)? {
+            return Ok(false);
+        }
+    }
+    Ok(true)
 }
 
 // A static method without parameters and result.
 fn plain<'a>(
     code: &'a [Instr],
-    frames: &'a [Ints],
+    frames: &'a [Given],
     fault: Option<(usize, VerifyCode)>,
 ) -> Sample<'a> {
     case("f", "()V", 9, code, &[], frames, fault)
@@ -134,7 +239,7 @@ fn case<'a>(
     flags: u16,
     code: &'a [Instr],
     handlers: &'a [Handler],
-    frames: &'a [Ints],
+    frames: &'a [Given],
     fault: Option<(usize, VerifyCode)>,
 ) -> Sample<'a> {
     Sample {
@@ -151,26 +256,49 @@ fn case<'a>(
 
 #[test]
 fn tells_the_first_fault(rt: HostRuntime) -> Result<(), Failed> {
-    let at_three = [Ints {
+    let at_three = [Given {
         at: 3,
         locals: 0,
-        stack: 0,
+        stack: Lying::Ints(0),
     }];
-    let at_four = [Ints {
+    let at_four = [Given {
         at: 4,
         locals: 0,
-        stack: 0,
+        stack: Lying::Ints(0),
     }];
-    let at_none = [Ints {
+    let at_none = [Given {
         at: 0,
         locals: 0,
-        stack: 0,
+        stack: Lying::Ints(0),
     }];
-    let at_two = [Ints {
+    let at_two = [Given {
         at: 2,
         locals: 1,
-        stack: 0,
+        stack: Lying::Ints(0),
     }];
+    let caught = [Given {
+        at: 3,
+        locals: 0,
+        stack: Lying::Thrown,
+    }];
+    let caught_with_int = [Given {
+        at: 3,
+        locals: 1,
+        stack: Lying::Thrown,
+    }];
+    let first_two = [Handler {
+        start: 0,
+        end: 2,
+        at: 3,
+        catch_type: 0,
+    }];
+    let catches = [
+        Instr::Iconst0,
+        Instr::Istore0,
+        Instr::Return,
+        Instr::Pop,
+        Instr::Return,
+    ];
     let empty_range = [Handler {
         start: 0,
         end: 0,
@@ -275,9 +403,352 @@ fn tells_the_first_fault(rt: HostRuntime) -> Result<(), Failed> {
             &at_none,
             Some((0, VerifyCode::BadHandler)),
         ),
+        case("f", "()V", 9, &catches, &first_two, &caught, None),
+        case(
+            "f",
+            "()V",
+            9,
+            &catches,
+            &first_two,
+            &caught_with_int,
+            Some((0, VerifyCode::BadHandler)),
+        ),
     ];
     for (n, row) in table.iter().enumerate() {
-        assert_eq!(rt; answers(rt.alloc(), row)?, true, "of row {n}");
+        assert_eq!(rt; is_told(rt.alloc(), row)?, true, "of row {n}");
+    }
+    Ok(())
+}
+
+#[test]
+fn tells_class_and_method(rt: HostRuntime) -> Result<(), Failed> {
+    let right = plain(&[Instr::Return], &[], None);
+    let wrong = plain(
+        &[Instr::Iconst0, Instr::Pop, Instr::Pop, Instr::Return],
+        &[],
+        None,
+    );
+    let fault = VerifyFault {
+        class: 1,
+        method: 2,
+        at: 2,
+        code: VerifyCode::StackUnderflow,
+    };
+    assert!(rt;
+        answers(
+            rt.alloc(),
+            &[&[wrong, right]],
+            Some(VerifyFault {
+                class: 0,
+                method: 0,
+                ..fault
+            })
+        )?
+    );
+    assert!(rt;
+        answers(
+            rt.alloc(),
+            &[&[right], &[right, right, wrong, wrong]],
+            Some(fault)
+        )?
+    );
+    Ok(())
+}
+
+#[test]
+fn takes_each_instruction(rt: HostRuntime) -> Result<(), Failed> {
+    let plain = Right {
+        descriptor: "()V",
+        before: &[],
+        each: &[],
+        after: &[Instr::Return],
+        frame: None,
+    };
+    let table = [
+        Right {
+            each: &[
+                Instr::AconstNull,
+                Instr::IconstM1,
+                Instr::Iconst0,
+                Instr::Iconst1,
+                Instr::Iconst2,
+                Instr::Iconst3,
+                Instr::Iconst4,
+                Instr::Iconst5,
+                Instr::Bipush(-1),
+                Instr::Sipush(300),
+                Instr::Ldc(2),
+                Instr::LdcW(3),
+            ],
+            after: &[Instr::Pop, Instr::Return],
+            ..plain
+        },
+        Right {
+            each: &[Instr::Lconst0, Instr::Lconst1, Instr::Ldc2W(4)],
+            after: &[Instr::Pop2, Instr::Return],
+            ..plain
+        },
+        Right {
+            before: &[Instr::Iconst0],
+            each: &[
+                Instr::Pop,
+                Instr::Istore(4),
+                Instr::WideIstore(5),
+                Instr::Istore0,
+                Instr::Istore1,
+                Instr::Istore2,
+                Instr::Istore3,
+            ],
+            ..plain
+        },
+        Right {
+            before: &[Instr::Lconst0],
+            each: &[
+                Instr::Pop2,
+                Instr::Lstore(4),
+                Instr::WideLstore(4),
+                Instr::Lstore0,
+                Instr::Lstore1,
+                Instr::Lstore2,
+                Instr::Lstore3,
+            ],
+            ..plain
+        },
+        Right {
+            before: &[Instr::AconstNull],
+            each: &[
+                Instr::Astore(4),
+                Instr::WideAstore(5),
+                Instr::Astore0,
+                Instr::Astore1,
+                Instr::Astore2,
+                Instr::Astore3,
+            ],
+            ..plain
+        },
+        Right {
+            before: &[
+                Instr::Iconst0,
+                Instr::Istore0,
+                Instr::Iconst0,
+                Instr::Istore1,
+                Instr::Iconst0,
+                Instr::Istore2,
+                Instr::Iconst0,
+                Instr::Istore3,
+            ],
+            each: &[
+                Instr::Iload(3),
+                Instr::WideIload(2),
+                Instr::Iload0,
+                Instr::Iload1,
+                Instr::Iload2,
+                Instr::Iload3,
+            ],
+            after: &[Instr::Pop, Instr::Return],
+            ..plain
+        },
+        Right {
+            before: &[
+                Instr::Lconst0,
+                Instr::Lstore0,
+                Instr::Lconst0,
+                Instr::Lstore2,
+            ],
+            each: &[
+                Instr::Lload(2),
+                Instr::WideLload(0),
+                Instr::Lload0,
+                Instr::Lload2,
+            ],
+            after: &[Instr::Pop2, Instr::Return],
+            ..plain
+        },
+        Right {
+            before: &[
+                Instr::Lconst0,
+                Instr::Lstore1,
+                Instr::Lconst0,
+                Instr::Lstore3,
+            ],
+            each: &[Instr::Lload1, Instr::Lload3],
+            after: &[Instr::Pop2, Instr::Return],
+            ..plain
+        },
+        Right {
+            before: &[
+                Instr::AconstNull,
+                Instr::Astore0,
+                Instr::AconstNull,
+                Instr::Astore1,
+                Instr::AconstNull,
+                Instr::Astore2,
+                Instr::AconstNull,
+                Instr::Astore3,
+            ],
+            each: &[
+                Instr::Aload(3),
+                Instr::WideAload(2),
+                Instr::Aload0,
+                Instr::Aload1,
+                Instr::Aload2,
+                Instr::Aload3,
+            ],
+            after: &[Instr::Pop, Instr::Return],
+            ..plain
+        },
+        Right {
+            before: &[Instr::Iconst0],
+            each: &[Instr::Dup],
+            after: &[Instr::Pop2, Instr::Return],
+            ..plain
+        },
+        Right {
+            before: &[Instr::Iconst1, Instr::Iconst1],
+            each: &[
+                Instr::Iadd,
+                Instr::Isub,
+                Instr::Imul,
+                Instr::Idiv,
+                Instr::Irem,
+                Instr::Ishl,
+                Instr::Ishr,
+                Instr::Iushr,
+                Instr::Iand,
+                Instr::Ior,
+                Instr::Ixor,
+            ],
+            after: &[Instr::Pop, Instr::Return],
+            ..plain
+        },
+        Right {
+            before: &[Instr::Lconst1, Instr::Lconst1],
+            each: &[
+                Instr::Ladd,
+                Instr::Lsub,
+                Instr::Lmul,
+                Instr::Ldiv,
+                Instr::Lrem,
+                Instr::Land,
+                Instr::Lor,
+                Instr::Lxor,
+            ],
+            after: &[Instr::Pop2, Instr::Return],
+            ..plain
+        },
+        Right {
+            before: &[Instr::Lconst1, Instr::Iconst1],
+            each: &[Instr::Lshl, Instr::Lshr, Instr::Lushr],
+            after: &[Instr::Pop2, Instr::Return],
+            ..plain
+        },
+        Right {
+            before: &[Instr::Iconst1],
+            each: &[Instr::Ineg, Instr::I2c],
+            after: &[Instr::Pop, Instr::Return],
+            ..plain
+        },
+        Right {
+            before: &[Instr::Lconst1],
+            each: &[Instr::Lneg],
+            after: &[Instr::Pop2, Instr::Return],
+            ..plain
+        },
+        Right {
+            before: &[Instr::Iconst1],
+            each: &[Instr::I2l],
+            after: &[Instr::Pop2, Instr::Return],
+            ..plain
+        },
+        Right {
+            before: &[Instr::Lconst1],
+            each: &[Instr::L2i],
+            after: &[Instr::Pop, Instr::Return],
+            ..plain
+        },
+        Right {
+            before: &[Instr::Lconst1, Instr::Lconst1],
+            each: &[Instr::Lcmp],
+            after: &[Instr::Pop, Instr::Return],
+            ..plain
+        },
+        Right {
+            before: &[Instr::Iconst1],
+            each: &[
+                Instr::Ifeq(3),
+                Instr::Ifne(3),
+                Instr::Iflt(3),
+                Instr::Ifge(3),
+                Instr::Ifgt(3),
+                Instr::Ifle(3),
+            ],
+            frame: Some(4),
+            ..plain
+        },
+        Right {
+            before: &[Instr::Iconst1, Instr::Iconst1],
+            each: &[
+                Instr::IfIcmpeq(3),
+                Instr::IfIcmpne(3),
+                Instr::IfIcmplt(3),
+                Instr::IfIcmpge(3),
+                Instr::IfIcmpgt(3),
+                Instr::IfIcmple(3),
+            ],
+            frame: Some(5),
+            ..plain
+        },
+        Right {
+            before: &[Instr::AconstNull, Instr::AconstNull],
+            each: &[Instr::IfAcmpeq(3), Instr::IfAcmpne(3)],
+            frame: Some(5),
+            ..plain
+        },
+        Right {
+            before: &[Instr::AconstNull],
+            each: &[Instr::Ifnull(3), Instr::Ifnonnull(3)],
+            frame: Some(4),
+            ..plain
+        },
+        Right {
+            each: &[Instr::Goto(3)],
+            frame: Some(3),
+            ..plain
+        },
+        Right {
+            before: &[Instr::Ldc(2)],
+            each: &[Instr::Invokestatic(11)],
+            ..plain
+        },
+        Right {
+            each: &[Instr::Return],
+            after: &[],
+            ..plain
+        },
+        Right {
+            descriptor: "()I",
+            before: &[Instr::Iconst1],
+            each: &[Instr::Ireturn],
+            after: &[],
+            frame: None,
+        },
+        Right {
+            descriptor: "()J",
+            before: &[Instr::Lconst1],
+            each: &[Instr::Lreturn],
+            after: &[],
+            frame: None,
+        },
+        Right {
+            descriptor: "()Ljava/lang/String;",
+            before: &[Instr::AconstNull],
+            each: &[Instr::Areturn],
+            after: &[],
+            frame: None,
+        },
+    ];
+    for (n, row) in table.iter().enumerate() {
+        assert_eq!(rt; are_taken(rt.alloc(), row)?, true, "of row {n}");
     }
     Ok(())
 }

@@ -10,6 +10,7 @@ use class_file::verify_code::VerifyFault;
 use kc_text::{Fail, Memory};
 use std::alloc::Global;
 use std::marker::Model;
+use verifier_types::NamedSet;
 
 /// A set of class files that verifies (Java Virtual Machine Specification SE 8, 4.10.1).
 #[derive(Drop)]
@@ -40,7 +41,7 @@ impl<'a> Verified<'a> {
 
 fn methods_fault(
     alloc: Global,
-    set: &Set,
+    set: &NamedSet,
     number: usize,
     class: &ClassFile,
 ) -> Result<Option<VerifyFault>, Memory>
@@ -63,18 +64,27 @@ fn methods_fault(
 }
 
 #[tactic(auto, unfolding(class_file::specs::Verification::first_fault))]
-fn set_fault(alloc: Global, set: &Set) -> Result<Option<VerifyFault>, Memory>
+fn named_fault(alloc: Global, set: &NamedSet) -> Result<Option<VerifyFault>, Memory>
     requires codes { IsCounted set.now }
     requires lot { IsOfFirstLot set.now }
     ensures { IfOk result (λ fault. fault ≡ first_fault set.now) }
 {
-    let classes = set.classes.as_slice();
+    let classes = set.as_set().classes.as_slice();
     for (n, class) in classes.iter().enumerate() {
         if let Some(fault) = methods_fault(alloc, set, n, class)? {
             return Ok(Some(fault));
         }
     }
     Ok(None)
+}
+
+fn set_fault(alloc: Global, set: &Set) -> Result<Option<VerifyFault>, Memory>
+    requires codes { IsCounted set.now }
+    requires lot { IsOfFirstLot set.now }
+    ensures { IfOk result (λ fault. fault ≡ first_fault set.now) }
+{
+    let named = NamedSet::new(alloc, set)?;
+    named_fault(alloc, &named)
 }
 
 /// A set of class files whose instructions are of the first lot: verified where it verifies, and else its first fault, in the order

@@ -4,8 +4,7 @@ use Rattle.std.specs.Prelude.{not}
 use Rattle.std.specs.List.{position_or_len}
 use Rattle.std.proofs.lemmas.Bool.{ltb-true, ltb-false}
 use Rattle.class_file.specs.declared.class.Set.{Set}
-use Rattle.class_file.specs.Classes.{element_of_class, class_number, without_last}
-use Rattle.class_file.specs.Members.{array_reference, named_reference}
+use Rattle.class_file.specs.Classes.{element_of_class, class_number, without_last, array_name}
 
 pub all_but_last : (xs : List ℕ) → take (length xs - 1) xs ≡ without_last xs
 all_but_last [] = refl
@@ -46,19 +45,19 @@ a_place xs d e = by (nat_lt (position_or_len opens xs) (length xs)) refl e
 
 module _ (set : Set) where
   -- nothing but brackets
-  pub none_array : (xs : List ℕ) (k : ℕ) → position_or_len opens xs ≡ length xs → array_reference set k xs ≡ None
+  pub none_array : (xs : List ℕ) (k : ℕ) → position_or_len opens xs ≡ length xs → array_name set k xs ≡ None
   none_array [] k e = refl
   none_array (u ∷ us) k e = by (eqb u 91) (none_array us (k + 1)) e
     where
-      by : (b : Bool) → (position_or_len opens us ≡ length us → array_reference set (k + 1) us ≡ None) → cond (not (not b)) (1 + position_or_len opens us) 0 ≡ suc (length us) → cond b (array_reference set (k + 1) us) (element_of_class (class_number set (without_last us)) k) ≡ None
+      by : (b : Bool) → (position_or_len opens us ≡ length us → array_name set (k + 1) us ≡ None) → cond (not (not b)) (1 + position_or_len opens us) 0 ≡ suc (length us) → cond b (array_name set (k + 1) us) (element_of_class (class_number set (without_last us)) k) ≡ None
       by true more h = more (omega arith)
       by false more h = absurd (omega arith)
 
-  pub some_array : (xs : List ℕ) (k d : ℕ) → position_or_len opens xs ≡ d → d < length xs → array_reference set k xs ≡ element_of_class (class_number set (without_last (drop (suc d) xs))) (k + d)
+  pub some_array : (xs : List ℕ) (k d : ℕ) → position_or_len opens xs ≡ d → d < length xs → array_name set k xs ≡ element_of_class (class_number set (without_last (drop (suc d) xs))) (k + d)
   some_array [] k d e h = absurd (omega arith)
   some_array (u ∷ us) k d e h = by (eqb u 91) (some_array us (k + 1) (position_or_len opens us) refl) e
     where
-      by : (b : Bool) → (position_or_len opens us < length us → array_reference set (k + 1) us ≡ element_of_class (class_number set (without_last (drop (suc (position_or_len opens us)) us))) (k + 1 + position_or_len opens us)) → cond (not (not b)) (1 + position_or_len opens us) 0 ≡ d → cond b (array_reference set (k + 1) us) (element_of_class (class_number set (without_last us)) k) ≡ element_of_class (class_number set (without_last (drop d us))) (k + d)
+      by : (b : Bool) → (position_or_len opens us < length us → array_name set (k + 1) us ≡ element_of_class (class_number set (without_last (drop (suc (position_or_len opens us)) us))) (k + 1 + position_or_len opens us)) → cond (not (not b)) (1 + position_or_len opens us) 0 ≡ d → cond b (array_name set (k + 1) us) (element_of_class (class_number set (without_last us)) k) ≡ element_of_class (class_number set (without_last (drop d us))) (k + d)
       by true more q =
           let n = position_or_len opens us in
           let back : suc n ≡ d = omega arith in
@@ -67,12 +66,3 @@ module _ (set : Set) where
       by false more q =
           let sum : k ≡ k + d = omega arith in
           ap (λ (j : ℕ). element_of_class (class_number set (without_last (drop j us))) k) q ∙ ap (element_of_class (class_number set (without_last (drop d us)))) sum
-
-  -- a name that begins with a bracket
-  pub named_array : (xs : List ℕ) → 0 < position_or_len opens xs → named_reference set xs ≡ array_reference set 0 xs
-  named_array [] h = absurd (omega arith)
-  named_array (u ∷ us) h = by (eqb u 91) h
-    where
-      by : (b : Bool) → 0 < cond (not (not b)) (1 + position_or_len opens us) 0 → cond b (array_reference set 1 us) (element_of_class (class_number set (u ∷ us)) 0) ≡ cond b (array_reference set (0 + 1) us) (element_of_class (class_number set (without_last us)) 0)
-      by true q = refl
-      by false q = absurd (omega arith)

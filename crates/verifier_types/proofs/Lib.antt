@@ -4,3 +4,4 @@ pub mod Statics
 pub mod ArrayNames
 pub mod Elements
 pub mod Spelling
+pub mod Named

@@ -7,15 +7,15 @@ ghost use Rattle.class_file.specs.Verification.{thrown_types};
 ghost use Rattle.verifier_types.specs.Frames.{shown};
 
 use crate::known::Known;
+use crate::named_set::NamedSet;
 use crate::names::reference_below;
 use crate::stack::Stack;
 use crate::types::VerificationType;
-use class_file::class::Set;
 use kc_text::Memory;
 use std::alloc::Global;
 
 /// Is the first type assignable to the second?
-pub fn assignable(set: &Set, from: VerificationType, to: VerificationType) -> bool
+pub fn assignable(set: &NamedSet, from: VerificationType, to: VerificationType) -> bool
     ensures { result ≡ assignable set.now (type_of from.entry) (type_of to.entry) }
 {
     match (from, to) {
@@ -65,7 +65,7 @@ pub fn assignable(set: &Set, from: VerificationType, to: VerificationType) -> bo
     }
 }
 
-fn all_assignable(set: &Set, from: &[VerificationType], to: &[VerificationType]) -> bool
+fn all_assignable(set: &NamedSet, from: &[VerificationType], to: &[VerificationType]) -> bool
     ensures { result ≡ all_assignable set.now (map type_of from.now) (map type_of to.now) }
 {
     if from.len() != to.len() {
@@ -80,7 +80,7 @@ fn all_assignable(set: &Set, from: &[VerificationType], to: &[VerificationType])
 }
 
 // The same for stacks; their tops stand at the lists' ends.
-fn stack_assignable(set: &Set, from: &Stack, to: &Stack) -> bool
+fn stack_assignable(set: &NamedSet, from: &Stack, to: &Stack) -> bool
     ensures { result ≡ all_assignable set.now from.now to.now }
 {
     all_assignable(set, from.as_slice(), to.as_slice())
@@ -93,7 +93,7 @@ fn same(a: bool, b: bool) -> bool
 }
 
 /// May what is known flow into a frame of which the other is known?
-pub fn is_assignable(set: &Set, from: &Known, to: &Known) -> bool
+pub fn is_assignable(set: &NamedSet, from: &Known, to: &Known) -> bool
     ensures { result ≡ types_assignable set.now (shown from.now) (shown to.now) }
 {
     if !all_assignable(set, from.locals.as_slice(), to.locals.as_slice()) {
@@ -108,7 +108,7 @@ pub fn is_assignable(set: &Set, from: &Known, to: &Known) -> bool
 /// May an object of this class that is thrown come to a handler of which the other is known?
 pub fn is_thrown_assignable(
     alloc: Global,
-    set: &Set,
+    set: &NamedSet,
     from: &Known,
     name: &[u16],
     to: &Known,

@@ -5,7 +5,7 @@ ghost use Rattle.class_file.specs.Classes.{built_ins, superclass, class_at, own_
 ghost use Rattle.class_file.specs.Members.{is_interface_view, is_there};
 ghost use Rattle.std.specs.List.{list_any};
 
-use class_file::class::Set;
+use crate::named_set::NamedSet;
 
 /// How many built-in classes there are.
 pub const BUILT_IN_COUNT: usize = 37;
@@ -151,7 +151,7 @@ pub fn built_in_number(name: &[u16]) -> Option<usize>
 }
 
 /// The number of a built-in class's superclass.
-pub fn built_in_superclass(_set: &Set, number: usize) -> Option<usize>
+pub fn built_in_superclass(_set: &NamedSet, number: usize) -> Option<usize>
     requires { number < 37 }
     ensures { result ≡ superclass _set.now number }
 {
@@ -159,7 +159,7 @@ pub fn built_in_superclass(_set: &Set, number: usize) -> Option<usize>
 }
 
 /// Is a built-in class an interface?
-pub fn is_built_in_interface(_set: &Set, number: usize) -> bool
+pub fn is_built_in_interface(_set: &NamedSet, number: usize) -> bool
     requires { number < 37 }
     ensures { result ≡ is_interface_view (class_at _set.now number) }
 {
@@ -180,7 +180,7 @@ fn is_among(
 }
 
 /// Has a built-in class this static method?
-pub fn has_built_in_static(_set: &Set, number: usize, name: &[u16], descriptor: &[u16]) -> bool
+pub fn has_built_in_static(_set: &NamedSet, number: usize, name: &[u16], descriptor: &[u16]) -> bool
     requires { number < 37 }
     ensures { result ≡ is_there (own_method _set.now true name.now descriptor.now number) }
 {

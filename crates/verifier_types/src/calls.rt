@@ -6,8 +6,9 @@ ghost use Rattle.class_file.specs.Members.{described, static_member, static_call
 ghost use Rattle.verifier_types.specs.Calls.{call_seen};
 
 use crate::descriptors::{Call, signature};
+use crate::named_set::NamedSet;
 use crate::names::has_static;
-use class_file::class::{ClassFile, Set};
+use class_file::class::ClassFile;
 use class_file::pool::{Entry, Pool};
 use kc_text::{Memory, Text};
 use std::alloc::Global;
@@ -47,7 +48,7 @@ pub fn described(alloc: Global, descriptor: &Text) -> Result<Call, Memory>
 
 fn named_call<'a>(
     alloc: Global,
-    set: &Set,
+    set: &NamedSet,
     of_interface: bool,
     owner: Option<&'a Text>,
     name: Option<&'a Text>,
@@ -79,7 +80,7 @@ fn named_call<'a>(
 // The static method of a class's or interface's entry, and of a NameAndType entry.
 fn static_member<'a>(
     alloc: Global,
-    set: &Set,
+    set: &NamedSet,
     pool: &'a Pool,
     of_interface: bool,
     owner: u16,
@@ -104,7 +105,7 @@ fn static_member<'a>(
 /// What `invokestatic` takes and gives, or none where the entry names no static method.
 pub fn static_call<'a>(
     alloc: Global,
-    set: &Set,
+    set: &NamedSet,
     class: &'a ClassFile,
     index: usize,
 ) -> Result<Option<Call<'a>>, Memory>

@@ -3,6 +3,7 @@ ghost use Rattle.std.specs.Prelude.{false, ◌≡◌, ◌∷◌, ◌++◌, ◌+�
 ghost use Rattle.std.specs.Option.{option_map, option_copied};
 ghost use Rattle.class_file.specs.Members.{type_of_field, call_of};
 ghost use Rattle.class_file.specs.Descriptors.{is_class_name, first_type, class_type, up_to_semicolon, parameters, signature, field_type, result_of};
+ghost use Rattle.class_file.specs.ClassBytes.{is_field_descriptor};
 ghost use Rattle.verifier_types.specs.Seen.{type_of};
 ghost use Rattle.verifier_types.specs.Calls.{name_step, read_of, read_seen, call_seen, Results, SemicolonAt, SpelledReads, ArrayReads, prefixed, parsed};
 
@@ -138,6 +139,16 @@ fn first_type(units: &[u16]) -> Option<TypeRead>
             }),
         },
         _ => None,
+    }
+}
+
+/// Is this the descriptor of a field?
+pub fn is_field_descriptor(units: &[u16]) -> bool
+    ensures { result ≡ is_field_descriptor units.now }
+{
+    match first_type(units) {
+        None => false,
+        Some(read) => read.rest.is_empty(),
     }
 }
 

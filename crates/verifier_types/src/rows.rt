@@ -16,10 +16,11 @@ use crate::constants::{constant_type, long_constant_type};
 use crate::descriptors::Call;
 use crate::known::Known;
 use crate::locals::Locals;
+use crate::named_set::NamedSet;
 use crate::stack::Stack;
 use crate::types::VerificationType;
 use crate::use_types::{misuse, misuses};
-use class_file::class::{ClassFile, Method, Set};
+use class_file::class::{ClassFile, Method};
 use class_file::row::Row;
 use class_file::value::Kind;
 use class_file::verify_code::VerifyCode;
@@ -168,7 +169,7 @@ fn push<'a>(known: &mut Known<'a>, t: VerificationType<'a>) -> Result<Option<Ver
 
 // The value of a return.
 fn return_value<'a>(
-    set: &Set,
+    set: &NamedSet,
     wanted: Option<VerificationType<'a>>,
     kind: Kind,
     known: &mut Known<'a>,
@@ -218,7 +219,7 @@ fn push_some<'a>(
 /// The types after a row of the first lot but a call, or its code, if the operands are there and the locals and the stack have
 /// room.
 pub fn typed<'a>(
-    set: &Set,
+    set: &NamedSet,
     class: &'a ClassFile,
     method: &Method,
     at: usize,
@@ -383,7 +384,7 @@ fn is_beyond(at: usize, width: usize, max: usize) -> bool
     at > max || max - at < width
 }
 
-fn needs(_set: &Set, _class: &ClassFile, row: Row, stack: &Stack) -> usize
+fn needs(_set: &NamedSet, _class: &ClassFile, row: Row, stack: &Stack) -> usize
     requires { is_plain row ≡ true }
     ensures { result ≡ needs _set.now _class.now row stack.now }
 {
@@ -400,7 +401,7 @@ fn needs(_set: &Set, _class: &ClassFile, row: Row, stack: &Stack) -> usize
     }
 }
 
-fn gives(_set: &Set, _class: &ClassFile, row: Row) -> usize
+fn gives(_set: &NamedSet, _class: &ClassFile, row: Row) -> usize
     requires { is_plain row ≡ true }
     ensures { result ≡ gives _set.now _class.now row }
 {
@@ -443,7 +444,7 @@ fn room_fault(
 }
 
 // Why the values on a stack cannot be the arguments of a call.
-fn argument_fault(set: &Set, params: &[VerificationType], stack: &Stack) -> Option<VerifyCode>
+fn argument_fault(set: &NamedSet, params: &[VerificationType], stack: &Stack) -> Option<VerifyCode>
     ensures { result ≡ misuses set.now (reverse (map type_of params.now)) stack.now }
 {
     misuses(set, params, stack.as_slice())
@@ -476,7 +477,7 @@ fn returned<'a>(call: &Call<'a>, known: &mut Known<'a>) -> Result<Option<VerifyC
 }
 
 fn known_call_step<'a>(
-    set: &Set,
+    set: &NamedSet,
     max_locals: usize,
     max_stack: usize,
     call: &Call<'a>,
@@ -495,7 +496,12 @@ fn known_call_step<'a>(
     returned(call, known)
 }
 
-fn unknown_call_step(set: &Set, max_locals: usize, max_stack: usize, known: &Known) -> VerifyCode
+fn unknown_call_step(
+    set: &NamedSet,
+    max_locals: usize,
+    max_stack: usize,
+    known: &Known,
+) -> VerifyCode
     ensures { call_verdict set.now max_locals max_stack None (shown known.now) ≡ Err result }
 {
     let _ = set;
@@ -507,7 +513,7 @@ fn unknown_call_step(set: &Set, max_locals: usize, max_stack: usize, known: &Kno
 
 // A call of a static method, if its name has one.
 fn call_step<'a>(
-    set: &Set,
+    set: &NamedSet,
     max_locals: usize,
     max_stack: usize,
     call: Option<Call<'a>>,
@@ -524,7 +530,7 @@ fn call_step<'a>(
 /// The types after a row of the first lot at a place of a method, or its code. `wanted` is the result of the method's descriptor.
 pub fn step<'a>(
     alloc: Global,
-    set: &Set,
+    set: &NamedSet,
     class: &'a ClassFile,
     method: &Method,
     at: usize,
@@ -546,7 +552,7 @@ pub fn step<'a>(
 }
 
 fn plain_step<'a>(
-    set: &Set,
+    set: &NamedSet,
     class: &'a ClassFile,
     method: &Method,
     at: usize,

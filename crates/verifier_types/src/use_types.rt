@@ -4,12 +4,12 @@ ghost use Rattle.class_file.specs.Typing.{misuse, misuses, worse};
 ghost use Rattle.verifier_types.specs.Seen.{type_of};
 
 use crate::assign::assignable;
+use crate::named_set::NamedSet;
 use crate::types::VerificationType;
-use class_file::class::Set;
 use class_file::verify_code::VerifyCode;
 
 /// Why a value of this type cannot be used where another is wanted.
-pub fn misuse(set: &Set, wanted: VerificationType, t: VerificationType) -> Option<VerifyCode>
+pub fn misuse(set: &NamedSet, wanted: VerificationType, t: VerificationType) -> Option<VerifyCode>
     ensures { result ≡ misuse set.now (type_of wanted.entry) (type_of t.entry) }
 {
     if assignable(set, t, wanted) {
@@ -36,7 +36,7 @@ fn worse(a: Option<VerifyCode>, b: Option<VerifyCode>) -> Option<VerifyCode>
 /// Why the values on a stack, whose top is the last, cannot be used where these types are wanted, of which the last is wanted on
 /// top.
 pub fn misuses(
-    set: &Set,
+    set: &NamedSet,
     wanted: &[VerificationType],
     stack: &[VerificationType],
 ) -> Option<VerifyCode>

@@ -1,6 +1,0 @@
-use Rattle.std.proofs.Common.{◌≡◌, false}
-use Rattle.std.proofs.Math.ListN.{replicate}
-use Rattle.verifier.proofs.flow.blank.Given as goal
-
-abbrev pub invariant-loop : goal.invariant-loop
-invariant-loop l = l.flags.items ≡ replicate l.counter false
