@@ -1,6 +1,6 @@
 -- What the bytes of a frame say of its numbers.
-use Rattle.std.proofs.Common.{◌≡◌, ℕ, ◌<◌, ◌^◌, Bool, true, false, List, [], ◌∷◌, ◌++◌, length, Option, Some, None, cond, sym, ap, subst, arith}
-use Rattle.std.specs.List.{AllByRecursion}
+use Rattle.std.proofs.Common.{◌≡◌, ℕ, ◌<◌, ◌^◌, Bool, true, false, List, [], ◌∷◌, ◌++◌, length, Option, Some, None, cond, refl, sym, ap, subst, arith}
+use Rattle.std.specs.List.{AllByRecursion, flat_map}
 use Rattle.class_file.specs.declared.class.VType.{VType}
 use Rattle.class_file.specs.declared.class.VType.TheVariants as type
 use Rattle.class_file.specs.declared.class.Frame.{Frame}
@@ -12,8 +12,14 @@ use Rattle.class_file.specs.Pools.{is_text}
 use Rattle.class_file.specs.Descriptors.{FieldType, IntType, CharType, BooleanType, LongType, Reference, Signature, signature}
 use Rattle.class_file.specs.Classes.{is_static_flag}
 use Rattle.class_file.specs.Members.{described, call_or_none, type_of_field}
-use Rattle.class_file.specs.ClassBytes.{Each, HandlerIs, receiver, at_start, MethodAttributesAre, with_code, without_code, CodeIs, TypeIs, Before, FrameIs, FormIs, same, one_item, one_item_extended, chop, same_extended, append, full}
-use Rattle.class_file.specs.WrittenClass.{behind, is_type}
+use Rattle.class_file.specs.declared.class.Attribute.{Attribute}
+use Rattle.class_file.specs.declared.instr.Instr.{Instr}
+use Rattle.class_file.specs.InstrBytes.{u2, instr_bytes}
+use Rattle.class_file.specs.ClassBytes.{Each, Table, AttributeIs, Among, code_name, stack_map_table, InstrsAre, CodeAttributesAre, with_frames, without_frames, HandlerIs, receiver, at_start, MethodAttributesAre, with_code, without_code, CodeIs, TypeIs, Before, FrameIs, FormIs, same, one_item, one_item_extended, chop, same_extended, append, full}
+use Rattle.class_file.specs.WrittenClass.{behind, is_type, attribute_bytes, code_bytes, frames_bytes}
+use Rattle.class_spelling.proofs.Writes.{write_others}
+use Rattle.class_spelling.proofs.WritesFrames.{write_stack_map}
+use Rattle.class_spelling.proofs.Written.{write_instructions, write_code}
 use Rattle.class_writer.specs.Fits.{IsSmall, AreSmall, FrameFits, IsBehind, HandlerFits}
 
 pub small_behind : (front whole more : List VType) → AllByRecursion IsSmall whole → behind front whole ≡ Some more → AllByRecursion IsSmall more
@@ -126,3 +132,34 @@ small_start this m = small_append (receiver this m.flags m.name) (described m.de
 pub code_spelled : (slots : Slots) (this : List ℕ) (m : Method) (bytes : List ℕ) → 0 < length m.code → MethodAttributesAre slots this m bytes → (code : List ℕ) × CodeIs slots this m code
 code_spelled slots this m bytes some (with_code flag among) = let sized = among.3.4.4.3.4 in (sized.0, sized.3)
 code_spelled slots this m bytes some (without_code none others) = absurd (omega (arith, some, ap length none.no_instructions))
+
+-- ---- attributes
+
+pub attribute_short : (slots : Slots) (a : Attribute) (bytes : List ℕ) → AttributeIs slots a bytes → length a.bytes < 2 ^ 32
+attribute_short slots a bytes e = let sized = e.4 in omega (arith, sized.1, ap length sized.3.1)
+
+-- attributes among which one has a meaning are a table without that one
+others_of : {P : List ℕ → Type 0} (slots : Slots) (name : List ℕ) (others : List Attribute) (bytes : List ℕ) → Among slots name P others bytes → (table : List ℕ) × Table (AttributeIs slots) others table
+others_of slots name others bytes among =
+    let o = write_others slots name others bytes among in let each = flat_map (attribute_bytes slots) others in (u2 (length others) ++ each, (u2 (length others), each, refl, (omega (arith, o.3), refl), o.2))
+
+pub method_others : (slots : Slots) (this : List ℕ) (m : Method) (bytes : List ℕ) → MethodAttributesAre slots this m bytes → (table : List ℕ) × Table (AttributeIs slots) m.others table
+method_others slots this m bytes (with_code flag among) = others_of slots code_name m.others bytes among
+method_others slots this m bytes (without_code none others) = (bytes, others)
+
+pub code_others : (slots : Slots) (before : Before) (frames : List Frame) (others : List Attribute) (bytes : List ℕ) → CodeAttributesAre slots before frames others bytes → (table : List ℕ) × Table (AttributeIs slots) others table
+code_others slots before frames others bytes (with_frames among) = others_of slots stack_map_table others bytes among
+code_others slots before frames others bytes (without_frames none all) = (bytes, all)
+
+-- ---- lengths: what is written is no longer than what spells it
+
+pub instrs_short : (slots : Slots) (code : List Instr) (bytes : List ℕ) → InstrsAre slots code bytes → length (flat_map instr_bytes code) < 2 ^ 16
+instrs_short slots code bytes e = let le = ((write_instructions slots code).writes bytes e).1 in omega (arith, e.1)
+
+pub code_short : (slots : Slots) (this : List ℕ) (m : Method) (bytes : List ℕ) → 0 < length m.code → MethodAttributesAre slots this m bytes → length (code_bytes slots this m) < 2 ^ 32
+code_short slots this m bytes some (with_code flag among) = let sized = among.3.4.4.3.4 in let le = ((write_code slots this m).writes sized.0 sized.3).1 in omega (arith, sized.1)
+code_short slots this m bytes some (without_code none others) = absurd (omega (arith, some, ap length none.no_instructions))
+
+pub stack_map_short : (slots : Slots) (before : Before) (frames : List Frame) (others : List Attribute) (bytes : List ℕ) → 0 < length frames → CodeAttributesAre slots before frames others bytes → length (u2 (length frames) ++ frames_bytes slots before frames) < 2 ^ 32
+stack_map_short slots before frames others bytes some (with_frames among) = let sized = among.3.4.4.3.4 in let le = ((write_stack_map slots before frames).writes sized.0 sized.3).1 in omega (arith, sized.1)
+stack_map_short slots before frames others bytes some (without_frames none all) = absurd (omega (arith, some, ap length none))

@@ -1,5 +1,5 @@
 -- Things of one kind, one after the other.
-use Rattle.std.proofs.Common.{◌≡◌, ℕ, ◌+◌, ◌<◌, List, [], ◌∷◌, ◌++◌, length, get_or, take, ap, ◌∙◌, append_assoc, append-nil}
+use Rattle.std.proofs.Common.{◌≡◌, ℕ, ◌+◌, ◌<◌, List, [], ◌∷◌, ◌++◌, length, get_or, take, ap, ◌∙◌, append-nil}
 use Rattle.std.specs.List.{AllByRecursion, flat_map}
 use Rattle.std.proofs.lemmas.List.{take_more}
 use Rattle.std.proofs.lemmas.List.Elements.{All-from_recursion, All-get_or}
@@ -17,11 +17,6 @@ all_spelled P (x ∷ xs) bytes e = ((e.0, e.3), all_spelled P xs e.1 e.4)
 -- each of the things is spelled
 pub spelled_at : {A : Type 0} (P : A → List ℕ → Type 0) (xs : List A) (bytes : List ℕ) (i : ℕ) (d : A) → Each P xs bytes → i < length xs → IsSpelled P (get_or xs i d)
 spelled_at P xs bytes i d e lt = All-get_or (IsSpelled P) xs i d lt (All-from_recursion (IsSpelled P) xs (all_spelled P xs bytes e))
-
--- things behind things
-pub each_append : {A : Type 0} (P : A → List ℕ → Type 0) (xs ys : List A) (front rest : List ℕ) → Each P xs front → Each P ys rest → Each P (xs ++ ys) (front ++ rest)
-each_append P [] ys front rest e f = rw e f
-each_append P (x ∷ xs) ys front rest e f = (e.0, e.1 ++ rest, ap (λ b. b ++ rest) e.2 ∙ append_assoc e.0 e.1 rest, e.3, each_append P xs ys e.1 rest e.4 f)
 
 -- one thing more
 pub flat_map_more : {A : Type 0} (f : A → List ℕ) (xs : List A) (i : ℕ) (d : A) → i < length xs → flat_map f (take (i + 1) xs) ≡ flat_map f (take i xs) ++ f (get_or xs i d)

@@ -50,9 +50,7 @@ fn put_names(out: &mut Vec<u8>, names: &Names, class: &ClassFile) -> Result<(), 
     put_interfaces(out, names, class.interfaces.as_slice())
 }
 
-/// The bytes of a class: a name by the first entry that has it, a frame in the first form that fits, and the attributes of code and
-/// frames in front of the others.
-pub fn write_class(alloc: Global, class: &ClassFile) -> Result<Vec<u8>, Memory>
+fn bytes_of(alloc: Global, class: &ClassFile) -> Result<Vec<u8>, Memory>
     requires { (bytes : List ℕ) × Spells class.now bytes }
     ensures { IfOk result (λ bytes. bytes.items ≡ class_bytes class.now) }
 {
@@ -71,4 +69,15 @@ pub fn write_class(alloc: Global, class: &ClassFile) -> Result<Vec<u8>, Memory>
     )?;
     put_attributes(&mut out, &names, class.others.as_slice())?;
     Ok(out)
+}
+
+/// The bytes of a class: a name by the first entry that has it, a frame in the first form that fits, and the attributes of code and
+/// frames in front of the others.
+pub fn write_class(alloc: Global, class: &ClassFile) -> Result<Vec<u8>, Memory>
+    requires { (bytes : List ℕ) × Spells class.now bytes }
+    ensures written { IfOk result (λ bytes. bytes.items ≡ class_bytes class.now) }
+    ensures spells { IfOk result (λ bytes. Spells class.now bytes.items) }
+{
+    let bytes = bytes_of(alloc, class)?;
+    Ok(bytes)
 }

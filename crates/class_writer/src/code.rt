@@ -28,6 +28,7 @@ fn put_instrs(out: &mut Vec<u8>, code: &[Instr]) -> Result<(), Memory>
 }
 
 fn put_code_array(alloc: Global, out: &mut Vec<u8>, code: &[Instr]) -> Result<(), Memory>
+    requires { length (flat_map instr_bytes code.now) < 2 ^ 16 }
     ensures { OnOk result (out.new.items ≡ out.old.items ++ sized_bytes (flat_map instr_bytes code.now)) }
 {
     let mut bytes = Vec::new(alloc);

@@ -1,5 +1,5 @@
 //! Fields and methods as bytes (Java Virtual Machine Specification SE 8, 4.5 and 4.6).
-ghost use Rattle.std.specs.Prelude.{◌≡◌, ◌++◌, ◌<◌, ◌^◌, List, ℕ, OnOk, IfOk, length, codes};
+ghost use Rattle.std.specs.Prelude.{◌≡◌, ◌++◌, List, ℕ, OnOk, IfOk, codes};
 ghost use Rattle.class_file.specs.ClassBytes.{FieldIs, MethodIs, MethodAttributesAre, Table};
 ghost use Rattle.class_file.specs.WrittenClass.{field_bytes, method_attributes_bytes, method_bytes, table_bytes};
 ghost use Rattle.class_writer.specs.Indexes.{AreFirst, slots_of};
@@ -14,7 +14,7 @@ use std::alloc::Global;
 
 fn put_field(out: &mut Vec<u8>, names: &Names, field: &Field) -> Result<(), Memory>
     requires first { AreFirst names.now }
-    requires small { length field.now.others < 2 ^ 16 }
+    requires spelled { (bytes : List ℕ) × FieldIs (slots_of names.now) field.now bytes }
     ensures { OnOk result (out.new.items ≡ out.old.items ++ field_bytes (slots_of names.now) field.now) }
 {
     put_u2(out, field.flags)?;

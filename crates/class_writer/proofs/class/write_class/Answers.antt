@@ -1,9 +1,7 @@
+use Rattle.std.proofs.Common.{sym, subst}
+use Rattle.class_file.specs.ClassBytes.{Spells}
+use Rattle.class_spelling.proofs.Written.{written_spells}
 use Rattle.class_writer.proofs.class.write_class.Goals as goal
 
-pub put_fields-requires-clause-spelled : goal.put_fields-requires-clause-spelled
-put_fields-requires-clause-spelled c =
-    let part = c.requires.1.parts.4.4.4.4.4.4.4.4 in rw (c.in_ok-names.ensures.pool, c.as_slice.ensures) (part.0, part.3)
-
-pub put_methods-requires-clause-spelled : goal.put_methods-requires-clause-spelled
-put_methods-requires-clause-spelled c =
-    let part = c.requires.1.parts.4.4.4.4.4.4.4.4.4 in rw (c.in_ok-names.ensures.pool, c.as_slice-2.ensures) (part.0, part.3)
+pub returns-clause-spells : goal.returns-clause-spells
+returns-clause-spells c = subst (Spells c.args.class.now) (sym c.in_ok-bytes.ensures) (written_spells c.args.class.now c.requires.0 c.requires.1)

@@ -1,0 +1,11 @@
+pub mod Loops
+pub mod Spelled
+pub mod Entries
+pub mod Modified
+pub mod Among
+pub mod Tables
+pub mod Parts
+pub mod Ending
+pub mod Keys
+pub mod Prefix
+pub mod Pieces

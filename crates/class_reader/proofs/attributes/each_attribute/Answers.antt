@@ -1,0 +1,18 @@
+use Rattle.std.proofs.lemmas.Result.{err_from_is_err_and}
+use Rattle.class_file.specs.Inputs.{each}
+use Rattle.class_file.specs.FormatFaults.{attribute_at}
+use Rattle.class_reader.specs.Reads.{input_of}
+use Rattle.class_reader.proofs.Loops.{goes_on, ends, is_done}
+use Rattle.class_reader.proofs.attributes.each_attribute.Goals as goal
+
+pub returns-in_err-attribute : goal.returns-in_err-attribute
+returns-in_err-attribute c =
+    let p = err_from_is_err_and c.from_residual.result c.from_residual.ensures.1 in
+    rw (p.1, p.2) (ends (attribute_at c.args.pool.now) c.in_err-attribute.field-0.0 c.loop.attributes c.args.count c.loop.counter (input_of c.loop.rest) (each (attribute_at c.args.pool.now) c.args.count (input_of c.args.input)) c.loop-test.true c.in_err-attribute.ensures c.loop.invariant)
+
+pub loop-preserved : goal.loop-preserved
+loop-preserved c =
+    rw c.in_ok-push.ensures.ok (goes_on (attribute_at c.args.pool.now) c.loop.attributes c.args.count c.loop.counter (input_of c.loop.rest) (input_of c.in_ok-attribute.behind) c.in_ok-attribute.attribute (each (attribute_at c.args.pool.now) c.args.count (input_of c.args.input)) c.loop-test.true c.in_ok-attribute.ensures c.loop.invariant)
+
+pub returns : goal.returns
+returns c = is_done (attribute_at c.args.pool.now) c.loop.attributes c.args.count c.loop.counter (input_of c.loop.rest) (each (attribute_at c.args.pool.now) c.args.count (input_of c.args.input)) c.loop-test.false c.loop.invariant

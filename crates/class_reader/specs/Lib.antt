@@ -1,0 +1,7 @@
+pub mod Reads
+pub mod Descriptors
+pub mod Pools
+pub mod Forms
+pub mod Frames
+pub mod Codes
+pub mod Members

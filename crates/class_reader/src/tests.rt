@@ -1,0 +1,63 @@
+use super::*;
+use class_file::format_fault::{FormatCode, FormatFault};
+use kc_text::Fail;
+use std::test::Fail as Failed;
+
+// A class M right below java/lang/Object, whose public static method main()V only returns.
+const BYTES: [u8; 100] = [
+    0xCA, 0xFE, 0xBA, 0xBE, 0, 0, 0, 52, 0, 8, 1, 0, 1, 77, 7, 0, 1, 1, 0, 16, 106, 97, 118, 97,
+    47, 108, 97, 110, 103, 47, 79, 98, 106, 101, 99, 116, 7, 0, 3, 1, 0, 4, 109, 97, 105, 110, 1,
+    0, 3, 40, 41, 86, 1, 0, 4, 67, 111, 100, 101, 0, 33, 0, 2, 0, 4, 0, 0, 0, 0, 0, 1, 0, 9, 0, 5,
+    0, 6, 0, 1, 0, 7, 0, 0, 0, 13, 0, 0, 0, 0, 0, 0, 0, 1, 0xB1, 0, 0, 0, 0, 0, 0,
+];
+
+#[test]
+fn reads_a_class(rt: HostRuntime) -> Result<(), Failed> {
+    let class = read_class(rt.alloc(), &BYTES).ok().ok_or("no class")?;
+    assert_eq!(rt; class.pool.count(), 8);
+    assert_eq!(rt; class.flags, 33);
+    assert_eq!(rt; class.this_name.units(), [77].as_slice());
+    assert_eq!(rt; class.methods.len(), 1);
+    Ok(())
+}
+
+fn is_fault(rt: &HostRuntime, bytes: &[u8], at: usize, code: FormatCode) -> bool {
+    match read_class(rt.alloc(), bytes) {
+        Err(Fail::Found(found)) => found == FormatFault { at, code },
+        _ => false,
+    }
+}
+
+// A byte that is changed, and the first fault then.
+const FAULTS: [(usize, u8, usize, FormatCode); 8] = [
+    (0, 0, 0, FormatCode::BadMagic),
+    (5, 1, 4, FormatCode::Version),
+    (9, 0, 8, FormatCode::BadPool),
+    (10, 4, 10, FormatCode::OutOfProfile),
+    (13, 0, 13, FormatCode::BadName),
+    (16, 2, 15, FormatCode::BadIndex),
+    (49, 41, 75, FormatCode::BadDescriptor),
+    (93, 0xBA, 93, FormatCode::BadCode),
+];
+
+#[test]
+fn tells_the_first_fault(rt: HostRuntime) {
+    for (place, byte, at, code) in FAULTS {
+        let mut bytes = BYTES;
+        bytes[place % 100] = byte;
+        assert!(rt; is_fault(&rt, &bytes, at, code));
+    }
+    assert!(rt; is_fault(&rt, &BYTES[..99], 98, FormatCode::Truncated));
+}
+
+// Any byte behind the pool may be changed.
+#[test]
+fn answers_for_changed_bytes(rt: HostRuntime) {
+    for place in 59..100 {
+        for byte in 0..255 {
+            let mut bytes = BYTES;
+            bytes[place] = byte;
+            assert!(rt; !matches!(read_class(rt.alloc(), &bytes), Err(Fail::Memory)));
+        }
+    }
+}
