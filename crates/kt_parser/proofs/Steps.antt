@@ -1,0 +1,166 @@
+-- The steps of the parser: readings and refusals of parts put together.
+use Rattle.std.proofs.Common.{◌≡◌, ℕ, zero, suc, ◌+◌, ◌≤◌, Bool, true, false, List, [], ◌∷◌, ◌++◌, length, length-append, drop, Result, Ok, Err, refl, sym, ap, subst, ◌∙◌, arith, add-one, true≢false}
+use Rattle.grammars.specs.Grammar.{Test, next, Part, nothing, one, row, both, choose, many, Cst, none, leaf, node, pair, left, right, first, test, d_both, Reads, r_nothing, r_one, r_row, r_both, r_left, r_right, r_more, r_done, r_guard, Settled, Productive, Stuck}
+use Rattle.grammars.proofs.Progress.{shorter}
+use Rattle.grammars.proofs.Readings.{derives, followed}
+use Rattle.grammars.proofs.Refusals.{stuck_one, stuck_row, stuck_left, stuck_right, stuck_first, stuck_second, stuck_turn, stuck_more}
+use Rattle.kc_text.specs.declared.errors.Fail.{Fail}
+use Rattle.kc_text.specs.declared.errors.Fail.TheVariants.{Found}
+use Rattle.kt_lexer.specs.declared.token.Token.{Token}
+use Rattle.kt_parser.specs.Parsed.{Read, Fails, found, no_memory, Parses, Resumes, Taken}
+use Rattle.kt_parser.specs.Rows.{Row, grammar}
+
+-- ---- one token forward
+
+pub record Next {A : Type 0} (n : ℕ) (ts : List A) (r : List A) : Type 0 where
+  pub rest : drop (suc n) ts ≡ r
+  pub within : suc n ≤ length ts
+
+pub next_of : {A : Type 0} (n : ℕ) (ts : List A) {t : A} {r : List A} → drop n ts ≡ t ∷ r → Next n ts r
+next_of zero [] e = absurd (cc)
+next_of zero (x ∷ ts) e = record { rest = cc; within = omega arith }
+next_of (suc n) [] e = absurd (cc)
+next_of (suc n) (x ∷ ts) e = let k = next_of n ts e in record { rest = k.rest; within = omega (arith, k.within) }
+
+pub first_is : {A : Type 0} (f : A → Bool) (ts : List A) → test f (first ts) ≡ true → (t : A) × (r : List A) × (f t ≡ true) × (ts ≡ t ∷ r)
+first_is f [] h = absurd (true≢false (sym h))
+first_is f (t ∷ r) h = (t, r, h, refl)
+
+-- the token at the place is taken
+pub takes_one : (f : Token → Bool) (ts : List Token) (at : ℕ) → test f (first (drop at ts)) ≡ true → Taken f ts at (at + 1)
+takes_one f ts at h =
+    let k = first_is f (drop at ts) h in
+    let m = next_of at ts k.3 in
+    rw add-one (record { token = k.0; is_so = k.2; here = k.3 ∙ ap (λ r. k.0 ∷ r) (sym m.rest); next = refl; within = m.within })
+
+pub standing : {f : Token → Bool} {ts : List Token} {at end : ℕ} (t : Taken f ts at end) → test f (first (drop at ts)) ≡ true
+standing {f = f} t = ap (λ m. test f (first m)) t.here ∙ t.is_so
+
+-- ---- readings
+
+-- what is settled with so many tokens left is settled with fewer
+pub settled_on : {a : Part Row Token} {ts r : List Token} {x : Cst Token} (m n : ℕ) (d : Reads grammar a ts x r) → n ≤ m → Settled m d → Settled n d
+settled_on m n r_nothing le s = tt
+settled_on m n (r_one h) le s = tt
+settled_on m n (r_row d) le s = settled_on m n d le s
+settled_on m n (r_both d e) le s = (settled_on m n d le s.0, settled_on m n e le s.1)
+settled_on m n (r_left h d) le s = (omega (arith, le, s.0), settled_on m n d le s.1)
+settled_on m n (r_right h d) le s = (omega (arith, le, s.0), settled_on m n d le s.1)
+settled_on m n (r_more h d e) le s = (omega (arith, le, s.0), settled_on m n d le s.1, settled_on m n e le s.2)
+settled_on m n (r_done h) le s = omega (arith, le, s)
+settled_on m n (r_guard h d p) le s = (omega (arith, le, s.0), settled_on m n d le s.1)
+
+pub fewer : {a : Part Row Token} {ts : List Token} {at end : ℕ} {x : Cst Token} (p : Read a ts at end x) → length (drop end ts) ≤ length (drop at ts)
+fewer p = shorter grammar (derives grammar p.reads)
+
+pub read_one : {f : Token → Bool} {ts : List Token} {at end : ℕ} (t : Taken f ts at end) → Read (one f) ts at end (leaf t.token)
+read_one {f = f} {ts = ts} {at = at} {end = end} t =
+    let k = subst (λ us. (d : Reads grammar (one f) us (leaf t.token) (drop end ts)) × Settled (length (drop end ts)) d) (sym t.here) (r_one t.is_so, tt) in
+    record { reads = k.0; settled = k.1; ahead = omega (arith, t.next); within = t.within }
+
+pub read_row : {n : Row} {ts : List Token} {at end : ℕ} {x : Cst Token} → Read (grammar n) ts at end x → Read (row n) ts at end (node x)
+read_row p = record { reads = r_row p.reads; settled = p.settled; ahead = p.ahead; within = p.within }
+
+pub read_both : {a b : Part Row Token} {ts : List Token} {at mid end : ℕ} {x y : Cst Token} → Read a ts at mid x → Read b ts mid end y → Read (both a b) ts at end (pair x y)
+read_both p q = record {
+  reads = r_both p.reads q.reads;
+  settled = (settled_on _ _ p.reads (fewer q) p.settled, q.settled);
+  ahead = omega (arith, p.ahead, q.ahead);
+  within = q.within;
+}
+
+pub read_nothing : {ts : List Token} {at : ℕ} → at ≤ length ts → Read nothing ts at at none
+read_nothing h = record { reads = r_nothing; settled = tt; ahead = omega arith; within = h }
+
+pub read_left : {f : Test Token} {a b : Part Row Token} {ts : List Token} {at end : ℕ} {x : Cst Token} → f.holds (drop at ts) ≡ true
+    → length (drop end ts) + f.far (drop at ts) ≤ length (drop at ts) → Read a ts at end x → Read (choose f a b) ts at end (left x)
+read_left h far p = record { reads = r_left h p.reads; settled = (far, p.settled); ahead = p.ahead; within = p.within }
+
+pub read_right : {f : Test Token} {a b : Part Row Token} {ts : List Token} {at end : ℕ} {x : Cst Token} → f.holds (drop at ts) ≡ false
+    → length (drop end ts) + f.far (drop at ts) ≤ length (drop at ts) → Read b ts at end x → Read (choose f a b) ts at end (right x)
+read_right h far p = record { reads = r_right h p.reads; settled = (far, p.settled); ahead = p.ahead; within = p.within }
+
+-- the same of a test of the next token
+pub read_first : {f : Token → Bool} {a b : Part Row Token} {ts : List Token} {at end : ℕ} {x : Cst Token} → test f (first (drop at ts)) ≡ true
+    → Read a ts at end x → Read (choose (next f) a b) ts at end (left x)
+read_first h p = read_left h (omega (arith, fewer p)) p
+
+pub read_second : {f : Token → Bool} {a b : Part Row Token} {ts : List Token} {at end : ℕ} {x : Cst Token} → test f (first (drop at ts)) ≡ false
+    → Read b ts at end x → Read (choose (next f) a b) ts at end (right x)
+read_second h p = read_right h (omega (arith, fewer p)) p
+
+pub read_turn : {f : Token → Bool} {a : Part Row Token} {ts : List Token} {at mid end : ℕ} {x y : Cst Token} → test f (first (drop at ts)) ≡ true
+    → Read a ts at mid x → Read (many (next f) a) ts mid end y → Read (many (next f) a) ts at end (pair x y)
+read_turn h p q = record {
+  reads = r_more h p.reads q.reads;
+  settled = (omega (arith, fewer p, fewer q), settled_on _ _ p.reads (fewer q) p.settled, q.settled);
+  ahead = omega (arith, p.ahead, q.ahead);
+  within = q.within;
+}
+
+pub read_done : {f : Token → Bool} {a : Part Row Token} {ts : List Token} {at : ℕ} → at ≤ length ts → test f (first (drop at ts)) ≡ false → Read (many (next f) a) ts at at none
+read_done w h = record { reads = r_done h; settled = omega arith; ahead = omega arith; within = w }
+
+-- ---- refusals
+
+pub has_both : {a b : Part Row Token} → Productive grammar a → Productive grammar b → Productive grammar (both a b)
+has_both p q = (p.0 ++ q.0, pair p.1 q.1, d_both (followed grammar p.2 q.0) q.2)
+
+pub fails_one : {f : Token → Bool} {ts : List Token} {at : ℕ} (t : Token) → f t ≡ true → at ≤ length ts → test f (first (drop at ts)) ≡ false → Fails (one f) ts at (Found at)
+fails_one {f = f} {ts = ts} {at = at} t e w h = found (record { stuck = stuck_one grammar f (drop at ts) h t e; within = w })
+
+pub fails_row : {n : Row} {ts : List Token} {at : ℕ} {e : Fail ℕ} → Fails (grammar n) ts at e → Fails (row n) ts at e
+fails_row (found k) = found (record { stuck = stuck_row grammar k.stuck; within = k.within })
+fails_row no_memory = no_memory
+
+pub fails_left : {f : Token → Bool} {a b : Part Row Token} {ts : List Token} {at : ℕ} {e : Fail ℕ} → test f (first (drop at ts)) ≡ true → Fails a ts at e → Fails (choose (next f) a b) ts at e
+fails_left h (found k) = found (record { stuck = stuck_left grammar h k.stuck (omega arith); within = k.within })
+fails_left h no_memory = no_memory
+
+pub fails_right : {f : Token → Bool} {a b : Part Row Token} {ts : List Token} {at : ℕ} {e : Fail ℕ} → test f (first (drop at ts)) ≡ false → Fails b ts at e → Fails (choose (next f) a b) ts at e
+fails_right h (found k) = found (record { stuck = stuck_right grammar h k.stuck (omega arith); within = k.within })
+fails_right h no_memory = no_memory
+
+pub fails_first : {a b : Part Row Token} {ts : List Token} {at : ℕ} {e : Fail ℕ} → Productive grammar b → Fails a ts at e → Fails (both a b) ts at e
+fails_first p (found k) = found (record { stuck = stuck_first grammar k.stuck p; within = k.within })
+fails_first p no_memory = no_memory
+
+pub behind_stuck : {a : Part Row Token} {ts rest : List Token} (k : Stuck grammar a ts rest) → length rest ≤ length ts
+behind_stuck {ts = ts} {rest = rest} k = omega (arith, ap length k.split, length-append k.before rest)
+
+pub fails_second : {a b : Part Row Token} {ts : List Token} {at mid : ℕ} {x : Cst Token} {e : Fail ℕ} → Read a ts at mid x → Fails b ts mid e → Fails (both a b) ts at e
+fails_second p (found k) = found (record { stuck = stuck_second grammar p.reads k.stuck (settled_on _ _ p.reads (behind_stuck k.stuck) p.settled); within = k.within })
+fails_second p no_memory = no_memory
+
+-- behind a token
+pub fails_after : {f : Token → Bool} {b : Part Row Token} {ts : List Token} {at mid : ℕ} {e : Fail ℕ} → Taken f ts at mid → Fails b ts mid e → Fails (both (one f) b) ts at e
+fails_after t k = fails_second (read_one t) k
+
+pub fails_turn : {f : Token → Bool} {a : Part Row Token} {ts : List Token} {at : ℕ} {e : Fail ℕ} → test f (first (drop at ts)) ≡ true → Fails a ts at e → Fails (many (next f) a) ts at e
+fails_turn h (found k) = found (record { stuck = stuck_turn grammar h k.stuck (omega arith); within = k.within })
+fails_turn h no_memory = no_memory
+
+pub fails_more : {f : Token → Bool} {a : Part Row Token} {ts : List Token} {at mid : ℕ} {x : Cst Token} {e : Fail ℕ} → test f (first (drop at ts)) ≡ true → Read a ts at mid x → Fails (many (next f) a) ts mid e → Fails (many (next f) a) ts at e
+fails_more h p (found k) = found (record {
+  stuck = stuck_more grammar h (omega (arith, behind_stuck k.stuck, fewer p)) p.reads k.stuck (settled_on _ _ p.reads (behind_stuck k.stuck) p.settled);
+  within = k.within;
+})
+fails_more h p no_memory = no_memory
+
+-- ---- loops
+
+-- What comes of the rest of a loop is what comes of the whole.
+pub turn : {X : Type 0} (f : Token → Bool) (a : Part Row Token) (all_of : X → Cst Token → X) {ts : List Token} {at mid : ℕ} {c : Cst Token} (x y : X)
+    → ((d : Cst Token) → all_of x (pair c d) ≡ all_of y d)
+    → test f (first (drop at ts)) ≡ true → Read a ts at mid c
+    → (r : Result (X × ℕ) (Fail ℕ)) → Parses (many (next f) a) (all_of y) ts mid r → Parses (many (next f) a) (all_of x) ts at r
+turn f a all_of {c = c} x y law h p (Ok r) q = record {
+  tree = pair c q.tree;
+  read = read_turn h p q.read;
+  builds = q.builds ∙ sym (law q.tree);
+}
+turn f a all_of x y law h p (Err e) q = fails_more h p q
+
+-- a loop begins
+pub resumes : {X : Type 0} (a : Part Row Token) (all_of : X → Cst Token → X) (ts : List Token) (at : ℕ) (x : X) → at ≤ length ts → Resumes a all_of ts at x at x
+resumes a all_of ts at x h = record { ahead = omega arith; within = h; whole = λ r q. q }

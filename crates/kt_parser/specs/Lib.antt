@@ -1,0 +1,9 @@
+pub mod Reserved
+pub mod Tokens
+pub mod Lookahead
+pub mod Steps
+pub mod Rows
+pub mod TypesBuilt
+pub mod Built
+pub mod Examples
+pub mod Parsed

@@ -1,0 +1,84 @@
+//! The grammar of types, expressions and statements, and the parser of types (Kotlin Language Specification 1.9, "Syntax grammar").
+#![tactic(auto)]
+
+mod locals;
+mod lookahead;
+mod tokens;
+mod types;
+
+ghost use Rattle.kt_parser.specs.Examples.{OperatorsRead, CallsRead, TypeArgumentsRead, ElsesRead, StatementsRead, FunctionTypesRead, MarksRead, ListsRead, ComparisonsRead, ClausesRead, TreesBuilt, PlacesBuilt};
+
+pub use locals::{bare_names, colon_type, names, typed_name};
+pub use lookahead::{
+    are_parameters, arguments_form, else_follows, is_argument_name, is_catch_clause,
+    is_finally_clause, result_follows, suffix_follows,
+};
+pub use tokens::{
+    begins_type, begins_type_argument, class, eat, eat_name, eat_op, eat_out, eat_unmarked,
+    eat_word, expect_name, expect_op, is_at, is_op_at, is_unmarked_at, keyword_class, name_class,
+    operator_class, span_between, word_at,
+};
+pub use types::{dotted, type_arguments, type_at};
+
+/// Operators and lines in small lists of tokens.
+pub fn operators_are_read()
+    ensures { OperatorsRead }
+{}
+
+/// Calls.
+pub fn calls_are_read()
+    ensures { CallsRead }
+{}
+
+/// Type arguments, comparisons and casts.
+pub fn type_arguments_are_read()
+    ensures { TypeArgumentsRead }
+{}
+
+/// `if` with and without `else`.
+pub fn elses_are_read()
+    ensures { ElsesRead }
+{}
+
+/// Statements, assignments and `try`.
+pub fn statements_are_read()
+    ensures { StatementsRead }
+{}
+
+/// Function types before the arrow of a branch or of a lambda's parameters.
+pub fn function_types_are_read()
+    ensures { FunctionTypesRead }
+{}
+
+/// What must stand on the same line, and what need not.
+pub fn marks_are_read()
+    ensures { MarksRead }
+{}
+
+/// Commas behind the last of a list, and labels behind calls.
+pub fn lists_are_read()
+    ensures { ListsRead }
+{}
+
+/// `<` in a list of arguments.
+pub fn comparisons_are_read()
+    ensures { ComparisonsRead }
+{}
+
+/// Clauses of `try`, and jumps.
+pub fn clauses_are_read()
+    ensures { ClausesRead }
+{}
+
+/// The trees of small expressions and statements.
+pub fn trees_are_built()
+    ensures { TreesBuilt }
+{}
+
+/// The places of nodes.
+pub fn places_are_built()
+    ensures { PlacesBuilt }
+{}
+
+#[cfg(test)]
+mod tests;

@@ -1,0 +1,138 @@
+//! Types of small texts: the place behind each, or the place at which it is refused.
+use super::*;
+use kc_text::{Fail, Names, Text};
+use kt_lexer::{Token, tokens};
+use sqlite_items::Items;
+use std::alloc::Global;
+use std::process::Abort;
+use std::test::Fail as Failed;
+
+/// The tokens of a text, after the names that mean something before certain tokens.
+fn cut(alloc: Global, source: &str) -> Result<Items<Token>, Failed> {
+    let mut names = Names::new(alloc);
+    for word in ["catch", "finally", "out"] {
+        names.add(Text::from_str(alloc, word)?)?;
+    }
+    let text = Text::from_str(alloc, source)?;
+    match tokens(alloc, &text, 0, &mut names) {
+        Ok(found) => Ok(found),
+        Err(_) => Ok(Items::new(alloc)),
+    }
+}
+
+/// How many tokens the type at the start has, and its place, or the fault's place.
+fn shown(alloc: Global, source: &str) -> Result<String, Failed> {
+    let found = cut(alloc, source)?;
+    let line = match type_at(alloc, found.as_slice(), 0) {
+        Ok((ty, end)) => {
+            format!(in alloc;
+                "{} of {}, {} to {}",
+                end,
+                found.len(),
+                ty.span.start,
+                ty.span.end
+            )?
+        }
+        Err(Fail::Found(place)) => format!(in alloc; "fault {}", place)?,
+        Err(Fail::Memory) => format!(in alloc; "memory")?,
+    };
+    Ok(line)
+}
+
+#[test]
+fn reads_types(rt: HostRuntime) -> Result<(), Failed> {
+    let table = [
+        ("A", "1 of 1, 0 to 1"),
+        ("a.B<out C, *, in D,>?", "14 of 14, 0 to 21"),
+        ("(A, b.C) -> D?", "10 of 10, 0 to 14"),
+        ("() -> A", "4 of 4, 0 to 7"),
+        ("((A))?", "6 of 6, 0 to 6"),
+        ("A<out>", "4 of 4, 0 to 6"),
+        ("A<out out>", "5 of 5, 0 to 10"),
+        ("A < B > c", "4 of 5, 0 to 7"),
+        ("", "fault 0"),
+        ("a.", "fault 2"),
+        ("A<>", "fault 2"),
+        ("A<out B ,", "fault 5"),
+        ("A<out ? ;", "fault 4"),
+        ("()", "fault 2"),
+        ("(A,)", "fault 4"),
+        ("(A", "fault 2"),
+        ("(A) -> ", "fault 4"),
+    ];
+    for (source, expected) in table {
+        assert_eq!(rt;
+            shown(rt.alloc(), source)?.as_str(),
+            expected,
+            "of {source:?}"
+        );
+    }
+    Ok(())
+}
+
+/// Which tests hold behind the first token.
+fn told(alloc: Global, source: &str) -> Result<String, Failed> {
+    let found = cut(alloc, source)?;
+    let tokens = found.as_slice();
+    let line = format!(in alloc;
+        "{} {} {} {} {} {}",
+        suffix_follows(alloc, tokens, 1)?,
+        arguments_form(alloc, tokens, 1)?,
+        result_follows(alloc, tokens, 1)?,
+        else_follows(tokens, 1),
+        is_catch_clause(tokens, 1),
+        is_finally_clause(tokens, 1)
+    )?;
+    Ok(line)
+}
+
+#[test]
+fn looks_ahead(rt: HostRuntime) -> Result<(), Failed> {
+    let table = [
+        ("a.b", "true false false false false false"),
+        ("a\n(b)", "false false false false false false"),
+        (
+            "a<b, (c, d) -> e<out f, *,>?,>(g)",
+            "true true false false false false",
+        ),
+        ("a<(b, c)>(d)", "false false false false false false"),
+        ("a<b> c", "false true false false false false"),
+        ("a -> b -> c", "false false true false false false"),
+        ("a -> (b)? , c", "false false true false false false"),
+        ("a -> b }", "false false false false false false"),
+        ("a; else b", "false false false true false false"),
+        ("a else -> b", "false false false false false false"),
+        ("a catch (b: c)", "false false false false true false"),
+        ("a catch (b)", "false false false false false false"),
+        ("a finally {", "false false false false false true"),
+    ];
+    for (source, expected) in table {
+        assert_eq!(rt;
+            told(rt.alloc(), source)?.as_str(),
+            expected,
+            "of {source:?}"
+        );
+    }
+    Ok(())
+}
+
+#[test]
+fn reads_names(rt: HostRuntime) -> Result<(), Failed> {
+    let alloc = rt.alloc();
+    let table = [
+        ("a: A<B>, b, c: D,", "3 names, 13"),
+        ("a, b)", "2 names, 3"),
+        ("a:)", "fault 2"),
+        ("", "0 names, 0"),
+    ];
+    for (source, expected) in table {
+        let found = cut(alloc, source)?;
+        let line = match names(alloc, found.as_slice(), Items::new(alloc), 0) {
+            Ok((all, end)) => format!(in alloc; "{} names, {}", all.len(), end)?,
+            Err(Fail::Found(place)) => format!(in alloc; "fault {}", place)?,
+            Err(Fail::Memory) => format!(in alloc; "memory")?,
+        };
+        assert_eq!(rt; line.as_str(), expected, "of {source:?}");
+    }
+    Ok(())
+}
