@@ -15,6 +15,7 @@ pub struct Span {
 #[derive(Clone, Copy, PartialEq, Eq)]
 pub enum TypeTree {
     Int,
+    Boolean,
     String,
     Unit,
 }
@@ -33,6 +34,15 @@ pub enum BinaryOp {
 #[derive(Clone, Copy, PartialEq, Eq)]
 pub enum UnaryOp {
     Minus,
+}
+
+/// A comparison of two numbers (Kotlin Language Specification 1.9, "Comparison expressions").
+#[derive(Clone, Copy, PartialEq, Eq)]
+pub enum Order {
+    Less,
+    LessEqual,
+    Greater,
+    GreaterEqual,
 }
 
 /// A function that the run-time system provides.
@@ -57,8 +67,14 @@ pub struct Core {
 pub enum Kind {
     IntLit(i32),
     StrLit(Text),
+    BoolLit(bool),
     /// The value of the local with this number.
     LocalRead(usize),
+    /// An assignment to the local with this number.
+    LocalWrite {
+        local: usize,
+        value: Boxed<Core>,
+    },
     /// A new variable under this number, unset or with a value.
     Declare {
         local: usize,
@@ -73,6 +89,27 @@ pub enum Kind {
         op: UnaryOp,
         value: Boxed<Core>,
     },
+    NumCompare {
+        order: Order,
+        left: Boxed<Core>,
+        right: Boxed<Core>,
+    },
+    /// Whether two values are equal.
+    Equal {
+        left: Boxed<Core>,
+        right: Boxed<Core>,
+    },
+    Not(Boxed<Core>),
+    /// The right side is evaluated only where the left one is true.
+    And {
+        left: Boxed<Core>,
+        right: Boxed<Core>,
+    },
+    /// The right side is evaluated only where the left one is false.
+    Or {
+        left: Boxed<Core>,
+        right: Boxed<Core>,
+    },
     /// The texts of the parts, one behind the other.
     Concat(Items<Core>),
     CallNative {
@@ -81,6 +118,17 @@ pub enum Kind {
     },
     /// The parts in order; all values but the last one's are dropped.
     Block(Items<Core>),
+    If {
+        test: Boxed<Core>,
+        held: Boxed<Core>,
+        failed: Option<Boxed<Core>>,
+    },
+    /// A loop with its test at the top, under a number of its own.
+    While {
+        label: usize,
+        test: Boxed<Core>,
+        body: Boxed<Core>,
+    },
 }
 
 /// A local variable: the number of its name, its type, and whether it may be assigned again.

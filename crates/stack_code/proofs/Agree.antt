@@ -7,7 +7,7 @@ use Rattle.kc_core.specs.declared.tree.TypeTree.TheVariants as type_is
 use Rattle.kc_core.specs.declared.tree.Program.{Program}
 use Rattle.kc_core.specs.Runs as runs
 use Rattle.kc_core.specs.Agreement.{agree, slower}
-use Rattle.kc_core.specs.Values.{Value, Int, Text, UnitValue}
+use Rattle.kc_core.specs.Values.{Value, Int, Boolean, Text, UnitValue}
 use Rattle.kc_core.specs.Meaning as source
 use Rattle.class_file.specs.declared.value.Value.{Value as Slot}
 use Rattle.class_file.specs.declared.value.Value.TheVariants as slot
@@ -15,12 +15,12 @@ use Rattle.class_file.specs.declared.class.Set.{Set}
 use Rattle.class_file.specs.Natives.{Object}
 use Rattle.class_file.specs.Machine.{Ending, Ended, Stuck, Next, Going, Over, on_from, machine, first, first_heap, first_statics, first_locals, handlers_of, written}
 use Rattle.class_file.specs.Runs.{on_add, over_after, grows}
-use Rattle.stack_code.specs.Code.{Leave, Spells, discards, code_of, body_code}
+use Rattle.stack_code.specs.Code.{Leave, Spells, discards, code_of, body_code, bit}
 use Rattle.stack_code.specs.Agrees.{source_outcome, machine_outcome, meaning_run, machine_run, IsCompiled, NeverBrokenAt, CompiledAgrees}
 use Rattle.stack_code.proofs.Runs.{Typed, Held, Spot, Quiet, live, IsGoing, printed, HasAt, has_front, factor, Run, Ready}
 use Rattle.stack_code.proofs.Steps.{discard, leave}
 use Rattle.stack_code.proofs.Single.{behind}
-use Rattle.stack_code.proofs.Nodes.{sized, type_of_code, node_follows}
+use Rattle.stack_code.proofs.Nodes.{sized, type_of_code, node_acts}
 use Rattle.stack_code.proofs.Placed.{has_all}
 use Rattle.stack_code.proofs.Found.{method_is, pool_is, main_called}
 
@@ -92,15 +92,23 @@ module _ (set : Set) (program : Program) (main : ℕ) (c : IsCompiled set progra
   unfolding o
   returns at ls h s type_is.Int (Int z) xs code is =
       (2, omega arith, ap (λ ys. on_from set 2 (live o at ls (ys ++ []) h s)) is.1 ∙ ap (on_from set 1) (discard set o at ls [] h s (slot.Int z) code.0 refl) ∙ leave set o (at + 1) ls [] h s code.1.0)
+  returns at ls h s type_is.Boolean (Boolean b) xs code is =
+      (2, omega arith, ap (λ ys. on_from set 2 (live o at ls (ys ++ []) h s)) is.1 ∙ ap (on_from set 1) (discard set o at ls [] h s (slot.Int (bit b)) code.0 refl) ∙ leave set o (at + 1) ls [] h s code.1.0)
   returns at ls h s type_is.String (Text t) xs code is =
       (2, omega arith, ap (λ ys. on_from set 2 (live o at ls (ys ++ []) h s)) is.1.1 ∙ ap (on_from set 1) (discard set o at ls [] h s (slot.Ref is.1.0) code.0 refl) ∙ leave set o (at + 1) ls [] h s code.1.0)
   returns at ls h s type_is.Unit UnitValue xs code is =
       (1, omega arith, ap (λ ys. on_from set 1 (live o at ls (ys ++ []) h s)) is.1 ∙ leave set o at ls [] h s code.0)
+  returns at ls h s type_is.Int (Boolean b) xs code is = absurd (let q = is.0 in cc)
   returns at ls h s type_is.Int (Text t) xs code is = absurd (let q = is.0 in cc)
   returns at ls h s type_is.Int UnitValue xs code is = absurd (let q = is.0 in cc)
+  returns at ls h s type_is.Boolean (Int z) xs code is = absurd (let q = is.0 in cc)
+  returns at ls h s type_is.Boolean (Text t) xs code is = absurd (let q = is.0 in cc)
+  returns at ls h s type_is.Boolean UnitValue xs code is = absurd (let q = is.0 in cc)
   returns at ls h s type_is.String (Int z) xs code is = absurd (let q = is.0 in cc)
+  returns at ls h s type_is.String (Boolean b) xs code is = absurd (let q = is.0 in cc)
   returns at ls h s type_is.String UnitValue xs code is = absurd (let q = is.0 in cc)
   returns at ls h s type_is.Unit (Int z) xs code is = absurd (let q = is.0 in cc)
+  returns at ls h s type_is.Unit (Boolean b) xs code is = absurd (let q = is.0 in cc)
   returns at ls h s type_is.Unit (Text t) xs code is = absurd (let q = is.0 in cc)
 
   body : source.Completion → Type 0
@@ -144,7 +152,7 @@ module _ (set : Set) (program : Program) (main : ℕ) (c : IsCompiled set progra
   unfolding body known
   says n =
       subst (λ r. runs.Says (factor + 1) S (machine_run set input) n (source_outcome r)) (sym (meaning_is n))
-      (comes_to (source.eval n c.function.body (known n)) n (meaning_is n) (node_follows set S n c.function.body (known n) o 0 locals [] first_heap (ready n)))
+      (comes_to (source.eval n c.function.body (known n)) n (meaning_is n) ((node_acts set S n c.function.body).value (known n) o 0 locals [] first_heap (ready n)))
 
   pub agrees_by_factor : runs.AgreesBy (factor + 1) (meaning_run program main input) (machine_run set input)
   agrees_by_factor = agree Ending (factor + 1) S (meaning_run program main input) (machine_run set input) (machine_lawful set input) says

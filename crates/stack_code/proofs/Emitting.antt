@@ -7,7 +7,7 @@ use Rattle.class_file.specs.declared.instr.Instr.{Instr}
 use Rattle.class_file.specs.Pools.{Slots, flat, entry_at, text_in, name_in, typed_in, method_in, member_of, Member, Named, named, named_in, constant_in, literal_of, Constant, Extends}
 use Rattle.class_file.specs.declared.value.NativeId.{NativeId}
 use Rattle.class_file.specs.Lots.{NamesNative}
-use Rattle.stack_code.specs.Code.{native_of, Operation, PushInt, PushText, Load, Store, Compute, Negate, Discard, Call, Leave, bytes_of, StandsFor, Spells}
+use Rattle.stack_code.specs.Code.{native_of, Operation, PushInt, PushText, Load, Store, Compute, Negate, Discard, Call, Jump, JumpIf, JumpCompare, Leave, bytes_of, StandsFor, Spells}
 use Rattle.std.proofs.Common.{drop, map, ◌<◌, ◌≤◌, Bool, true, false, length-drop, get_or}
 use Rattle.std.proofs.lemmas.List.{drop_all, drop_more}
 use Rattle.std.proofs.lemmas.Bool.{cases_lt}
@@ -165,6 +165,9 @@ stands_kept p q at i (Compute o) x h = h
 stands_kept p q at i Negate x h = h
 stands_kept p q at i Discard x h = h
 stands_kept p q at i (Call n) x h = (h.0, h.1, native_stays p q h.0 (native_of n) x h.2)
+stands_kept p q at i (Jump d) x h = h
+stands_kept p q at i (JumpIf t n) x h = h
+stands_kept p q at i (JumpCompare t n) x h = h
 stands_kept p q at i Leave x h = h
 
 spells_kept : (p q : Slots) (at : ℕ) (is : List Instr) (ops : List Operation) → Extends p q → Spells p at is ops → Spells q at is ops

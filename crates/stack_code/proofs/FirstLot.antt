@@ -8,12 +8,12 @@ use Rattle.class_file.specs.declared.class.Method.{Method}
 use Rattle.class_file.specs.declared.class.Set.{Set}
 use Rattle.class_file.specs.declared.instr.Instr.{Instr}
 use Rattle.class_file.specs.declared.row.Row.TheVariants as row
-use Rattle.class_file.specs.Rows.{length_of, row_of, instr_at}
+use Rattle.class_file.specs.Rows.{length_of, row_of, instr_at, target}
 use Rattle.class_file.specs.Pools.{Slots, named_in, entry_at}
 use Rattle.class_file.specs.Machine.{fetch, instr_in, methods_of, method_at, class_pool}
 use Rattle.class_file.specs.Lots.{in_first_lot, NamesNative, IsFirstLot}
 use Rattle.class_file.specs.declared.value.NativeId.{NativeId}
-use Rattle.stack_code.specs.Code.{Operation, PushInt, PushText, Load, Store, Compute, Negate, Discard, Call, Leave, bytes_of, StandsFor, Spells, native_of, body_code}
+use Rattle.stack_code.specs.Code.{Operation, PushInt, PushText, Load, Store, Compute, Negate, Discard, Call, Jump, JumpIf, JumpCompare, Leave, bytes_of, StandsFor, Spells, native_of, body_code}
 use Rattle.stack_code.specs.Agrees.{IsCompiled, CompiledIsFirstLot}
 use Rattle.stack_code.proofs.Found.{method_is, pool_is, main_is_plain}
 
@@ -63,6 +63,9 @@ row_is_in pool at i (Compute o) h = ap in_first_lot h
 row_is_in pool at i Negate h = ap in_first_lot h
 row_is_in pool at i Discard h = ap in_first_lot h
 row_is_in pool at i (Call m) h = ap in_first_lot h.1
+row_is_in pool at i (Jump d) h = ap in_first_lot h
+row_is_in pool at i (JumpIf t n) h = ap in_first_lot h
+row_is_in pool at i (JumpCompare t n) h = ap in_first_lot h
 row_is_in pool at i Leave h = ap in_first_lot h
 
 same_index : (a b : ℕ) → row.InvokeStatic a ≡ row.InvokeStatic b → a ≡ b
@@ -79,6 +82,9 @@ call_is_built pool at k i (Store l x) h r = absurd (let q : row.Store l x ≡ ro
 call_is_built pool at k i (Compute o) h r = absurd (let q : row.IntBinary o ≡ row.InvokeStatic k = sym h ∙ r in cc)
 call_is_built pool at k i Negate h r = absurd (let q : row.IntNeg ≡ row.InvokeStatic k = sym h ∙ r in cc)
 call_is_built pool at k i Discard h r = absurd (let q : row.Pop ≡ row.InvokeStatic k = sym h ∙ r in cc)
+call_is_built pool at k i (Jump d) h r = absurd (let q : row.Goto (target at d) ≡ row.InvokeStatic k = sym h ∙ r in cc)
+call_is_built pool at k i (JumpIf t n) h r = absurd (let q : row.IfZero t (at + n) ≡ row.InvokeStatic k = sym h ∙ r in cc)
+call_is_built pool at k i (JumpCompare t n) h r = absurd (let q : row.IfCompare t (at + n) ≡ row.InvokeStatic k = sym h ∙ r in cc)
 call_is_built pool at k i Leave h r = absurd (let q : row.Return ≡ row.InvokeStatic k = sym h ∙ r in cc)
 
 same_method : (a b : Method) → Some a ≡ Some b → a ≡ b

@@ -4,11 +4,14 @@ pub mod Steps
 pub mod Lists
 pub mod Single
 pub mod Operands
+pub mod Tests
 pub mod Several
+pub mod Choices
 pub mod Texts
 pub mod Nodes
 pub mod Placed
 pub mod Agree
 pub mod Emitting
+pub mod Measuring
 pub mod FirstLot
 pub mod OwnNames

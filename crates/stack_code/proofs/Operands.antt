@@ -7,8 +7,8 @@ use Rattle.kc_core.specs.declared.tree.TypeTree.TheVariants as type_is
 use Rattle.kc_core.specs.declared.tree.BinaryOp.{BinaryOp}
 use Rattle.kc_core.specs.declared.tree.BinaryOp.TheVariants.{Plus, Minus, Times, Div, Rem}
 use Rattle.kc_core.specs.declared.tree.Span.{Span}
-use Rattle.kc_core.specs.Values.{Value, Int, Text, UnitValue, arithmetic, negated}
-use Rattle.kc_core.specs.Meaning.{State, Completion, Gives, then_do, enter, checked, declared, number_or_zero_divisor, division_by_zero, on_int}
+use Rattle.kc_core.specs.Values.{Value, Int, Boolean, Text, UnitValue, arithmetic, negated}
+use Rattle.kc_core.specs.Meaning.{State, Completion, Gives, then_do, enter, checked, set_local, number_or_zero_divisor, division_by_zero, on_int}
 use Rattle.class_file.specs.declared.value.Value.{Value as Slot}
 use Rattle.class_file.specs.declared.value.Value.TheVariants as slot
 use Rattle.class_file.specs.declared.value.Kind.{Kind as SlotKind}
@@ -16,7 +16,7 @@ use Rattle.class_file.specs.declared.value.Kind.TheVariants as kinds
 use Rattle.class_file.specs.declared.class.Set.{Set}
 use Rattle.class_file.specs.Natives.{Object}
 use Rattle.class_file.specs.Machine.{Next, Over, Threw, on_from, after, or_zero_divisor, int_answer, Goes}
-use Rattle.stack_code.specs.Code.{Operation, Compute, Negate, bytes, Emitted, stores, then_code, two_code, operator_of, local_bytes}
+use Rattle.stack_code.specs.Code.{Operation, Compute, Negate, bytes, Emitted, stores, then_code, two_code, operator_of, local_bytes, bit}
 use Rattle.stack_code.proofs.Runs.{grows_none, Represents, represents_on, Typed, Holds, Held, Spot, Quiet, live, HasAt, has_front, Sized, factor, Reaches, Run, run_on, bind, own, ends_at, Ready, Follows, Inside, with_check, entered}
 use Rattle.stack_code.proofs.Steps.{frame, state, store, negate, compute}
 use Rattle.stack_code.proofs.Lists.{get_same, get_other, set_length, within, held_write}
@@ -55,6 +55,7 @@ module _ (set : Set) (S : ℕ) where
       own set S 1 (live o at ls (xs ++ st) h s) h factor 0 ls ls h (slot.Int (negated z) ∷ []) (λ h' ys. Represents h' (Int (negated z)) ys) s (λ ls' h' ys. live o (at + 1) ls' (ys ++ st) h' s) (omega arith)
       (ap (λ ys. on_from set 1 (live o at ls (ys ++ st) h s)) is.1 ∙ negate set o at ls st h s z code.0)
       refl (grows_none h) held refl
+  negate_tail ty span (Boolean b) xs s o at ls st h code held quiet is = tt
   negate_tail ty span (Text t) xs s o at ls st h code held quiet is = tt
   negate_tail ty span UnitValue xs s o at ls st h code held quiet is = tt
 
@@ -76,17 +77,20 @@ module _ (set : Set) (S : ℕ) where
       lt : x < length s.locals
       lt = within s.locals x old e
 
-  declare_tail : (ty : TypeTree) (span : Span) (x : ℕ) → Tail ty (stores ty x) (λ v s1. declared span (slice_get s1.locals x) x (Some v) s1)
+  declare_tail : (ty : TypeTree) (span : Span) (x : ℕ) → Tail ty (stores ty x) (λ v s1. set_local span (slice_get s1.locals x) x (Some v) s1)
   declare_tail ty span x v xs s o at ls st h code held quiet is = found ty v xs code is (slice_get s.locals x) refl
     where
       fits : (old : Option Value) → slice_get s.locals x ≡ Some old → nat_lt (length ls) (x + 1) ≡ false
       fits old e = let lt = within s.locals x old e in not_less (length ls) (x + 1) (omega (arith, lt, held.room))
 
-      found : (ty : TypeTree) (v : Value) (xs : List Slot) → HasAt set o at (stores ty x) → Typed ty h v xs → (w : Option (Option Value)) → slice_get s.locals x ≡ w → Run set S o Represents (live o at ls (xs ++ st) h s) h s.units factor 0 ls (at + bytes (stores ty x)) st (declared span w x (Some v) s)
+      found : (ty : TypeTree) (v : Value) (xs : List Slot) → HasAt set o at (stores ty x) → Typed ty h v xs → (w : Option (Option Value)) → slice_get s.locals x ≡ w → Run set S o Represents (live o at ls (xs ++ st) h s) h s.units factor 0 ls (at + bytes (stores ty x)) st (set_local span w x (Some v) s)
       found ty v xs code is None e = tt
       found type_is.Int (Int z) xs code is (Some old) e =
           subst (λ ys. Run set S o Represents (live o at ls (ys ++ st) h s) h s.units factor 0 ls (at + (local_bytes x + 0)) st (Gives UnitValue (record s { locals = slice_set s.locals x (Some (Int z)) }))) (sym is.1)
           (stored_run o at ls st h s kinds.Int x (slot.Int z) (Int z) old e held (λ i. store set o at ls st h s kinds.Int x (slot.Int z) code.0 refl (fits old e) refl) refl)
+      found type_is.Boolean (Boolean b) xs code is (Some old) e =
+          subst (λ ys. Run set S o Represents (live o at ls (ys ++ st) h s) h s.units factor 0 ls (at + (local_bytes x + 0)) st (Gives UnitValue (record s { locals = slice_set s.locals x (Some (Boolean b)) }))) (sym is.1)
+          (stored_run o at ls st h s kinds.Int x (slot.Int (bit b)) (Boolean b) old e held (λ i. store set o at ls st h s kinds.Int x (slot.Int (bit b)) code.0 refl (fits old e) refl) refl)
       found type_is.String (Text t) xs code is (Some old) e =
           subst (λ ys. Run set S o Represents (live o at ls (ys ++ st) h s) h s.units factor 0 ls (at + (local_bytes x + 0)) st (Gives UnitValue (record s { locals = slice_set s.locals x (Some (Text t)) }))) (sym is.1.1)
           (stored_run o at ls st h s kinds.Ref x (slot.Ref is.1.0) (Text t) old e held (λ i. store set o at ls st h s kinds.Ref x (slot.Ref is.1.0) code.0 refl (fits old e) refl) (is.1.0, refl, is.1.2))
@@ -95,15 +99,21 @@ module _ (set : Set) (S : ℕ) where
           own set S 0 (live o at ls (xs ++ st) h s) h factor 0 ls ls h [] (λ h' ys. Represents h' UnitValue ys) s' (λ ls' h' ys. live o (at + 0) ls' (ys ++ st) h' s') (omega arith)
           (let e : at ≡ at + 0 = omega arith in ap (λ ys. live o at ls (ys ++ st) h s) is.1 ∙ ap (λ n. live o n ls st h s) e)
           refl (grows_none h) (held_write h ls ls s.locals x UnitValue (within s.locals x old e) refl tt (λ y q. refl) held) refl
+      found type_is.Int (Boolean b) xs code is (Some old) e = absurd (let q = is.0 in cc)
       found type_is.Int (Text t) xs code is (Some old) e = absurd (let q = is.0 in cc)
+      found type_is.Boolean (Int z) xs code is (Some old) e = absurd (let q = is.0 in cc)
+      found type_is.Boolean (Text t) xs code is (Some old) e = absurd (let q = is.0 in cc)
+      found type_is.Boolean UnitValue xs code is (Some old) e = absurd (let q = is.0 in cc)
+      found type_is.String (Boolean b) xs code is (Some old) e = absurd (let q = is.0 in cc)
+      found type_is.Unit (Boolean b) xs code is (Some old) e = absurd (let q = is.0 in cc)
       found type_is.Int UnitValue xs code is (Some old) e = absurd (let q = is.0 in cc)
       found type_is.String (Int z) xs code is (Some old) e = absurd (let q = is.0 in cc)
       found type_is.String UnitValue xs code is (Some old) e = absurd (let q = is.0 in cc)
       found type_is.Unit (Int z) xs code is (Some old) e = absurd (let q = is.0 in cc)
       found type_is.Unit (Text t) xs code is (Some old) e = absurd (let q = is.0 in cc)
 
-  pub declare_follows : (d : ℕ) (ty : TypeTree) (span : Span) (x : ℕ) (a : Emitted) (fa : State → Completion) → Sized a → Follows set S d a fa → Follows set S (suc d) (then_code a (stores a.ty x) ty) (λ s. enter s.units s (λ s1. then_do (then_do (fa s1) (λ v s2. declared span (slice_get s2.locals x) x (Some v) s2)) (checked span ty)))
-  declare_follows d ty span x a fa za ra = after_value d a fa (stores a.ty x) ty span (λ v s2. declared span (slice_get s2.locals x) x (Some v) s2) za (declare_tail a.ty span x) ra
+  pub declare_follows : (d : ℕ) (ty : TypeTree) (span : Span) (x : ℕ) (a : Emitted) (fa : State → Completion) → Sized a → Follows set S d a fa → Follows set S (suc d) (then_code a (stores a.ty x) ty) (λ s. enter s.units s (λ s1. then_do (then_do (fa s1) (λ v s2. set_local span (slice_get s2.locals x) x (Some v) s2)) (checked span ty)))
+  declare_follows d ty span x a fa za ra = after_value d a fa (stores a.ty x) ty span (λ v s2. set_local span (slice_get s2.locals x) x (Some v) s2) za (declare_tail a.ty span x) ra
 
   answers : (op : BinaryOp) (m n : ℤ) → int_answer (operator_of op) m n ≡ arithmetic op m n
   answers Plus m n = refl
@@ -132,8 +142,10 @@ module _ (set : Set) (S : ℕ) where
       by_answer None e =
           own set S 1 c h factor 0 ls ls h [] (λ h' zs. Unit {0}) s (λ ls' h' zs. Over (Threw division_by_zero.class division_by_zero.message) s.out) (omega arith)
           (step None e ∙ unhandled set (state o at ls (slot.Int n ∷ slot.Int m ∷ st) h s) (frame o at ls (slot.Int n ∷ slot.Int m ∷ st) ∷ o.rest) (quiet.0, quiet.1)) tt (grows_none h) held refl
+  compute_tail span op (Int m) (Boolean b) xs ys s o at ls st h code held quiet isx isy = tt
   compute_tail span op (Int m) (Text t) xs ys s o at ls st h code held quiet isx isy = tt
   compute_tail span op (Int m) UnitValue xs ys s o at ls st h code held quiet isx isy = tt
+  compute_tail span op (Boolean b) y xs ys s o at ls st h code held quiet isx isy = tt
   compute_tail span op (Text t) y xs ys s o at ls st h code held quiet isx isy = tt
   compute_tail span op UnitValue y xs ys s o at ls st h code held quiet isx isy = tt
 

@@ -4,7 +4,7 @@ use Rattle.kc_core.specs.declared.tree.TypeTree.{TypeTree}
 use Rattle.kc_core.specs.declared.tree.TypeTree.TheVariants as type_is
 use Rattle.kc_core.specs.declared.tree.Span.{Span}
 use Rattle.kc_core.specs.declared.tree.Core.{Core}
-use Rattle.kc_core.specs.Values.{Value, Int, Text, UnitValue}
+use Rattle.kc_core.specs.Values.{Value, Int, Boolean, Text, UnitValue}
 use Rattle.kc_core.specs.Meaning.{State, Completion, Gives, then_do, enter, checked, in_order}
 use Rattle.class_file.specs.declared.value.Value.{Value as Slot}
 use Rattle.class_file.specs.declared.value.Value.TheVariants as slot
@@ -12,7 +12,7 @@ use Rattle.stack_code.specs.declared.constants.Helper.TheVariants as helper
 use Rattle.class_file.specs.declared.class.Set.{Set}
 use Rattle.class_file.specs.Natives.{Object}
 use Rattle.class_file.specs.Machine.{on_from}
-use Rattle.stack_code.specs.Code.{Operation, Call, bytes, Emitted, Several, nothing, followed, further_texts, texts, values, in_turn, whole, to_text, discards, code_of}
+use Rattle.stack_code.specs.Code.{Operation, Call, bytes, Emitted, Several, nothing, followed, further_texts, texts, values, in_turn, whole, to_text, discards, code_of, bit}
 use Rattle.stack_code.proofs.Runs.{grows_none, Represents, Typed, Held, Spot, Quiet, live, HasAt, has_front, has_back, Sized, factor, Reaches, Run, Rep, run_on, run_own, bind, own, ends_at, wider, Ready, Follows, Inside, with_check, entered}
 use Rattle.stack_code.proofs.Steps.{discard}
 use Rattle.stack_code.proofs.Lists.{bytes_append}
@@ -25,7 +25,7 @@ pub followed_sized : (e : Emitted) (between : List Operation) (more : Several) �
 followed_sized e between more a b =
     let p = bytes_append e.code (between ++ more.code) in
     let q = bytes_append between more.code in
-    omega (arith, p, q, a, b)
+    omega (arith, p, q, a.whole, b)
 
 module _ (A : Type 0) (f : A → Emitted) (sized : (a : A) → Sized (f a)) where
   pub further_sized : (es : List A) → AllSized (further_texts (map f es))
@@ -45,8 +45,36 @@ module _ (A : Type 0) (f : A → Emitted) (sized : (a : A) → Sized (f a)) wher
   turns_sized (e ∷ []) = followed_sized (f e) [] nothing (sized e) refl
   turns_sized (e ∷ g ∷ es) = followed_sized (f e) (discards (f e).ty) (in_turn (map f (g ∷ es))) (sized e) (turns_sized (g ∷ es))
 
-pub whole_sized : (s : Several) (tail : List Operation) (ty : TypeTree) → AllSized s → Sized (whole s tail ty)
-whole_sized s tail ty a = let p = bytes_append s.code tail in omega (arith, p, a)
+pub whole_size : (s : Several) (tail : List Operation) → AllSized s → bytes (s.code ++ tail) ≡ s.size + bytes tail
+whole_size s tail a = let p = bytes_append s.code tail in omega (arith, p, a)
+
+module _ (set : Set) (S : ℕ) where
+  -- a value of a type goes off the stack
+  pub discarded : (o : Spot) (rep : Rep set S) (at end : ℕ) (ls st st0 : List Slot) (h : List Object) (s : State) (B : ℕ) (ty : TypeTree) (v : Value) (xs : List Slot) → HasAt set o at (discards ty) → Typed ty h v xs → Held h ls s.locals → (r : Completion) → Run set S o rep (live o (at + bytes (discards ty)) ls st h s) h s.units 2 B ls end st0 r → Run set S o rep (live o at ls (xs ++ st) h s) h s.units 4 B ls end st0 r
+  discarded o rep at end ls st st0 h s B type_is.Int (Int z) xs code is held r run =
+      run_own set S 1 o rep end st0 (live o at ls (xs ++ st) h s) (live o (at + 1) ls st h s) h h 4 2 B ls ls s (omega arith)
+      (ap (λ ys. on_from set 1 (live o at ls (ys ++ st) h s)) is.1 ∙ discard set o at ls st h s (slot.Int z) code.0 refl) (grows_none h) held refl r run
+  discarded o rep at end ls st st0 h s B type_is.Boolean (Boolean b) xs code is held r run =
+      run_own set S 1 o rep end st0 (live o at ls (xs ++ st) h s) (live o (at + 1) ls st h s) h h 4 2 B ls ls s (omega arith)
+      (ap (λ ys. on_from set 1 (live o at ls (ys ++ st) h s)) is.1 ∙ discard set o at ls st h s (slot.Int (bit b)) code.0 refl) (grows_none h) held refl r run
+  discarded o rep at end ls st st0 h s B type_is.String (Text t) xs code is held r run =
+      run_own set S 1 o rep end st0 (live o at ls (xs ++ st) h s) (live o (at + 1) ls st h s) h h 4 2 B ls ls s (omega arith)
+      (ap (λ ys. on_from set 1 (live o at ls (ys ++ st) h s)) is.1.1 ∙ discard set o at ls st h s (slot.Ref is.1.0) code.0 refl) (grows_none h) held refl r run
+  discarded o rep at end ls st st0 h s B type_is.Unit UnitValue xs code is held r run =
+      run_own set S 0 o rep end st0 (live o at ls (xs ++ st) h s) (live o (at + 0) ls st h s) h h 4 2 B ls ls s (omega arith)
+      (let e : at ≡ at + 0 = omega arith in ap (λ ys. live o at ls (ys ++ st) h s) is.1 ∙ ap (λ n. live o n ls st h s) e) (grows_none h) held refl r run
+  discarded o rep at end ls st st0 h s B type_is.Int (Boolean b) xs code is held r run = absurd (let q = is.0 in cc)
+  discarded o rep at end ls st st0 h s B type_is.Int (Text t) xs code is held r run = absurd (let q = is.0 in cc)
+  discarded o rep at end ls st st0 h s B type_is.Int UnitValue xs code is held r run = absurd (let q = is.0 in cc)
+  discarded o rep at end ls st st0 h s B type_is.Boolean (Int z) xs code is held r run = absurd (let q = is.0 in cc)
+  discarded o rep at end ls st st0 h s B type_is.Boolean (Text t) xs code is held r run = absurd (let q = is.0 in cc)
+  discarded o rep at end ls st st0 h s B type_is.Boolean UnitValue xs code is held r run = absurd (let q = is.0 in cc)
+  discarded o rep at end ls st st0 h s B type_is.String (Int z) xs code is held r run = absurd (let q = is.0 in cc)
+  discarded o rep at end ls st st0 h s B type_is.String (Boolean b) xs code is held r run = absurd (let q = is.0 in cc)
+  discarded o rep at end ls st st0 h s B type_is.String UnitValue xs code is held r run = absurd (let q = is.0 in cc)
+  discarded o rep at end ls st st0 h s B type_is.Unit (Int z) xs code is held r run = absurd (let q = is.0 in cc)
+  discarded o rep at end ls st st0 h s B type_is.Unit (Boolean b) xs code is held r run = absurd (let q = is.0 in cc)
+  discarded o rep at end ls st st0 h s B type_is.Unit (Text t) xs code is held r run = absurd (let q = is.0 in cc)
 
 module _ (set : Set) (S : ℕ) (d : ℕ) (ev : Core → State → Completion) (sized : (e : Core) → Sized (code_of e)) (ih : (e : Core) → Follows set S d (code_of e) (ev e)) where
   -- what several children find
@@ -74,24 +102,6 @@ module _ (set : Set) (S : ℕ) (d : ℕ) (ev : Core → State → Completion) (s
   }
 
   -- PARTS IN TURN
-  -- a value of a type goes off the stack
-  discarded : (o : Spot) (rep : Rep set S) (at end : ℕ) (ls st st0 : List Slot) (h : List Object) (s : State) (B : ℕ) (ty : TypeTree) (v : Value) (xs : List Slot) → HasAt set o at (discards ty) → Typed ty h v xs → Held h ls s.locals → (r : Completion) → Run set S o rep (live o (at + bytes (discards ty)) ls st h s) h s.units 2 B ls end st0 r → Run set S o rep (live o at ls (xs ++ st) h s) h s.units 4 B ls end st0 r
-  discarded o rep at end ls st st0 h s B type_is.Int (Int z) xs code is held r run =
-      run_own set S 1 o rep end st0 (live o at ls (xs ++ st) h s) (live o (at + 1) ls st h s) h h 4 2 B ls ls s (omega arith)
-      (ap (λ ys. on_from set 1 (live o at ls (ys ++ st) h s)) is.1 ∙ discard set o at ls st h s (slot.Int z) code.0 refl) (grows_none h) held refl r run
-  discarded o rep at end ls st st0 h s B type_is.String (Text t) xs code is held r run =
-      run_own set S 1 o rep end st0 (live o at ls (xs ++ st) h s) (live o (at + 1) ls st h s) h h 4 2 B ls ls s (omega arith)
-      (ap (λ ys. on_from set 1 (live o at ls (ys ++ st) h s)) is.1.1 ∙ discard set o at ls st h s (slot.Ref is.1.0) code.0 refl) (grows_none h) held refl r run
-  discarded o rep at end ls st st0 h s B type_is.Unit UnitValue xs code is held r run =
-      run_own set S 0 o rep end st0 (live o at ls (xs ++ st) h s) (live o (at + 0) ls st h s) h h 4 2 B ls ls s (omega arith)
-      (let e : at ≡ at + 0 = omega arith in ap (λ ys. live o at ls (ys ++ st) h s) is.1 ∙ ap (λ n. live o n ls st h s) e) (grows_none h) held refl r run
-  discarded o rep at end ls st st0 h s B type_is.Int (Text t) xs code is held r run = absurd (let q = is.0 in cc)
-  discarded o rep at end ls st st0 h s B type_is.Int UnitValue xs code is held r run = absurd (let q = is.0 in cc)
-  discarded o rep at end ls st st0 h s B type_is.String (Int z) xs code is held r run = absurd (let q = is.0 in cc)
-  discarded o rep at end ls st st0 h s B type_is.String UnitValue xs code is held r run = absurd (let q = is.0 in cc)
-  discarded o rep at end ls st st0 h s B type_is.Unit (Int z) xs code is held r run = absurd (let q = is.0 in cc)
-  discarded o rep at end ls st st0 h s B type_is.Unit (Text t) xs code is held r run = absurd (let q = is.0 in cc)
-
   -- several children do what a function of the state does
   abbrev pub Does : Several → (State → Completion) → Type 0
   Does x f = (s : State) (o : Spot) (at : ℕ) (ls st : List Slot) (h : List Object) → Readies x s o at ls h → Run set S o Represents (live o at ls st h s) h s.units 2 x.nodes ls (at + x.size) st (f s)
@@ -134,7 +144,7 @@ module _ (set : Set) (S : ℕ) (d : ℕ) (ev : Core → State → Completion) (s
       last : ((v0 : Value) → Does (in_turn (map code_of (f ∷ es))) (in_order ev (f ∷ es) v0)) → (v : Value) (s1 : State) → Reaches set S (live o at ls st h s) h s.units 0 (code_of e).nodes ls (λ h' xs. Typed (code_of e).ty h' v xs) s1 (λ ls' h' xs. live o (at + (code_of e).size) ls' (xs ++ st) h' s1) → Run set S o Represents (live o at ls st h s) h s.units 2 ((code_of e).nodes + more.nodes) ls end st (in_order ev (f ∷ es) v s1)
       last again v s1 g =
           run_on set S o Represents end st (live o at ls st h s) h s.units 2 ((code_of e).nodes + more.nodes) 0 (code_of e).nodes 4 more.nodes ls s1 (λ h' xs. Typed (code_of e).ty h' v xs) (λ ls' h' xs. live o (at + (code_of e).size) ls' (xs ++ st) h' s1) g (omega arith) (omega arith) (in_order ev (f ∷ es) v s1)
-          (discarded o Represents (at + (code_of e).size) end g.ls' st st g.h' s1 more.nodes (code_of e).ty v g.xs (has_front set o (at + (code_of e).size) (discards (code_of e).ty) more.code (between_at e (discards (code_of e).ty) more s o at ls h ready)) g.is g.held (in_order ev (f ∷ es) v s1)
+          (discarded set S o Represents (at + (code_of e).size) end g.ls' st st g.h' s1 more.nodes (code_of e).ty v g.xs (has_front set o (at + (code_of e).size) (discards (code_of e).ty) more.code (between_at e (discards (code_of e).ty) more s o at ls h ready)) g.is g.held (in_order ev (f ∷ es) v s1)
           (ends_at set S o Represents (live o next g.ls' st g.h' s1) g.h' s1.units 2 more.nodes g.ls' (next + more.size) end st (in_order ev (f ∷ es) v s1) (omega arith)
           (again v s1 o next g.ls' st g.h' (more_ready e (discards (code_of e).ty) more s s1 o at next ls g.ls' h g.h' ready (omega (arith, g.units)) g.held refl))))
 

@@ -5,8 +5,8 @@ use Rattle.std.specs.List.{find}
 use Rattle.kc_core.specs.declared.tree.TypeTree.{TypeTree}
 use Rattle.kc_core.specs.declared.tree.TypeTree.TheVariants as type_is
 use Rattle.kc_core.specs.declared.tree.Span.{Span}
-use Rattle.kc_core.specs.Values.{Value, Int, Text, UnitValue}
-use Rattle.kc_core.specs.Meaning.{State, Gives, then_do, enter, checked, read, declared, division_by_zero}
+use Rattle.kc_core.specs.Values.{Value, Int, Boolean, Text, UnitValue}
+use Rattle.kc_core.specs.Meaning.{State, Gives, then_do, enter, checked, read, set_local, division_by_zero}
 use Rattle.class_file.specs.declared.value.Value.{Value as Slot}
 use Rattle.class_file.specs.declared.value.Value.TheVariants as slot
 use Rattle.class_file.specs.declared.value.Kind.TheVariants as kinds
@@ -16,13 +16,13 @@ use Rattle.class_file.specs.declared.class.Set.{Set}
 use Rattle.class_file.specs.Classes.{built_ins}
 use Rattle.class_file.specs.Natives.{Object, TextObject, Instance, name_of, text_in}
 use Rattle.class_file.specs.Machine.{Active, State as MachineState, Over, Threw, thrown, unwound, goes_on, catches, with_exception, class_pool}
-use Rattle.stack_code.specs.Code.{Operation, PushInt, PushText, bytes_of, bytes, Emitted, leaf, loads, local_bytes}
+use Rattle.stack_code.specs.Code.{Operation, PushInt, PushText, bytes_of, bytes, Emitted, leaf, loads, local_bytes, bit}
 use Rattle.stack_code.proofs.Runs.{grows_none, Represents, Typed, Held, held_on, Spot, Unhandled, live, HasAt, has_back, Sized, factor, Run, own, Ready, Follows, Inside, with_check, entered}
 use Rattle.stack_code.proofs.Steps.{push_int, push_text, load}
 use Rattle.stack_code.proofs.Lists.{within, get_new, grows_more, held_unset}
 
 pub behind : (set : Set) (o : Spot) (x : Emitted) → Sized x → (at : ℕ) (b : List Operation) → HasAt set o at (x.code ++ b) → HasAt set o (at + x.size) b
-behind set o x sized at b h = subst (λ n. HasAt set o (at + n) b) sized (has_back set o at x.code b h)
+behind set o x sized at b h = subst (λ n. HasAt set o (at + n) b) sized.whole (has_back set o at x.code b h)
 
 -- a throw that no frame handles ends the run
 unwinds : (set : Set) (s : MachineState) (r class : ℕ) (fields : List Slot) (fs : List Active) → Unhandled set fs → unwound set s r class fields fs ≡ unwound set s r class fields []
@@ -86,6 +86,10 @@ module _ (set : Set) (S : ℕ) where
           own set S 1 (live o at ls st h s) h factor 0 ls ls h (slot.Int z ∷ []) (λ h' xs. Typed type_is.Int h' (Int z) xs) s (λ ls' h' xs. live o (at + bytes (loads type_is.Int x)) ls' (xs ++ st) h' s) (omega arith)
           (load set o at ls st h s kinds.Int x (slot.Int z) code.0 (held.same x (Int z) e) refl ∙ ap (λ n. live o n ls (slot.Int z ∷ st) h s) (one at (local_bytes x)))
           (refl, refl) (grows_none h) held refl
+      of_type s o at ls st h type_is.Boolean held code (Boolean b) e =
+          own set S 1 (live o at ls st h s) h factor 0 ls ls h (slot.Int (bit b) ∷ []) (λ h' xs. Typed type_is.Boolean h' (Boolean b) xs) s (λ ls' h' xs. live o (at + bytes (loads type_is.Boolean x)) ls' (xs ++ st) h' s) (omega arith)
+          (load set o at ls st h s kinds.Int x (slot.Int (bit b)) code.0 (held.same x (Boolean b) e) refl ∙ ap (λ n. live o n ls (slot.Int (bit b) ∷ st) h s) (one at (local_bytes x)))
+          (refl, refl) (grows_none h) held refl
       of_type s o at ls st h type_is.String held code (Text t) e =
           let r = held.same x (Text t) e in
           own set S 1 (live o at ls st h s) h factor 0 ls ls h (slot.Ref r.0 ∷ []) (λ h' xs. Typed type_is.String h' (Text t) xs) s (λ ls' h' xs. live o (at + bytes (loads type_is.String x)) ls' (xs ++ st) h' s) (omega arith)
@@ -95,7 +99,13 @@ module _ (set : Set) (S : ℕ) where
           own set S 0 (live o at ls st h s) h factor 0 ls ls h [] (λ h' xs. Typed type_is.Unit h' UnitValue xs) s (λ ls' h' xs. live o (at + bytes (loads type_is.Unit x)) ls' (xs ++ st) h' s) (omega arith)
           (let e : at ≡ at + 0 = omega arith in ap (λ n. live o n ls st h s) e)
           (refl, refl) (grows_none h) held refl
+      of_type s o at ls st h type_is.Int held code (Boolean b) e = tt
       of_type s o at ls st h type_is.Int held code (Text t) e = tt
+      of_type s o at ls st h type_is.Boolean held code (Int z) e = tt
+      of_type s o at ls st h type_is.Boolean held code (Text t) e = tt
+      of_type s o at ls st h type_is.Boolean held code UnitValue e = tt
+      of_type s o at ls st h type_is.String held code (Boolean b) e = tt
+      of_type s o at ls st h type_is.Unit held code (Boolean b) e = tt
       of_type s o at ls st h type_is.Int held code UnitValue e = tt
       of_type s o at ls st h type_is.String held code (Int z) e = tt
       of_type s o at ls st h type_is.String held code UnitValue e = tt
@@ -108,10 +118,10 @@ module _ (set : Set) (S : ℕ) where
       found s o at ls st h ready None e = tt
 
   -- a variable without a value
-  pub unset_follows : (d : ℕ) (ty : TypeTree) (span : Span) (x : ℕ) → Follows set S (suc d) (leaf [] ty) (λ s. enter s.units s (λ s1. then_do (declared span (slice_get s1.locals x) x None s1) (checked span ty)))
-  unset_follows d ty span x = entered set S d 0 (leaf [] ty) _ (omega arith) (with_check set S d 0 (leaf [] ty) span (λ s. declared span (slice_get s.locals x) x None s) (λ s o at ls st h ready. found s o at ls st h ready (slice_get s.locals x) refl))
+  pub unset_follows : (d : ℕ) (ty : TypeTree) (span : Span) (x : ℕ) → Follows set S (suc d) (leaf [] ty) (λ s. enter s.units s (λ s1. then_do (set_local span (slice_get s1.locals x) x None s1) (checked span ty)))
+  unset_follows d ty span x = entered set S d 0 (leaf [] ty) _ (omega arith) (with_check set S d 0 (leaf [] ty) span (λ s. set_local span (slice_get s.locals x) x None s) (λ s o at ls st h ready. found s o at ls st h ready (slice_get s.locals x) refl))
     where
-      found : (s : State) (o : Spot) (at : ℕ) (ls st : List Slot) (h : List Object) → Ready set S d (leaf [] ty) s o at ls h → (w : Option (Option Value)) → slice_get s.locals x ≡ w → Run set S o Represents (live o at ls st h s) h s.units factor 0 ls (at + 0) st (declared span w x None s)
+      found : (s : State) (o : Spot) (at : ℕ) (ls st : List Slot) (h : List Object) → Ready set S d (leaf [] ty) s o at ls h → (w : Option (Option Value)) → slice_get s.locals x ≡ w → Run set S o Represents (live o at ls st h s) h s.units factor 0 ls (at + 0) st (set_local span w x None s)
       found s o at ls st h ready (Some old) e =
           let s' : State = record s { locals = slice_set s.locals x None } in
           own set S 0 (live o at ls st h s) h factor 0 ls ls h [] (λ h' xs. Represents h' UnitValue xs) s' (λ ls' h' xs. live o (at + 0) ls' (xs ++ st) h' s') (omega arith)

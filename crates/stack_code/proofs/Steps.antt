@@ -1,9 +1,10 @@
 -- What the machine does at an instruction for each operation.
-use Rattle.std.proofs.Common.{◌≡◌, ℕ, ◌+◌, List, [], ◌∷◌, ◌++◌, length, Option, Some, None, true, false, refl, ap, ◌∙◌, ⊎_elim}
-use Rattle.std.specs.Prelude.{slice_get, slice_set, ℤ, nat_lt, if◌then◌else◌, ◌||◌, ◌-◌}
+use Rattle.std.proofs.Common.{◌≡◌, ℕ, ◌+◌, List, [], ◌∷◌, ◌++◌, length, Option, Some, None, Bool, true, false, refl, ap, ◌∙◌, ⊎_elim}
+use Rattle.std.specs.Prelude.{slice_get, slice_set, ℤ, pos, nat_lt, if◌then◌else◌, ◌||◌, ◌-◌}
 use Rattle.std.specs.Fmt.{signed_decimal}
 use Rattle.std.specs.Int.{w32, int_wrapping_neg}
 use Rattle.kc_text.specs.Unicode.{utf8_of}
+use Rattle.kc_core.specs.Values.{truth_text}
 use Rattle.kc_core.specs.Meaning.{State as Known}
 use Rattle.class_file.specs.declared.value.Value.{Value as Slot}
 use Rattle.class_file.specs.declared.value.Value.TheVariants as slot
@@ -13,13 +14,14 @@ use Rattle.stack_code.specs.declared.constants.Helper.TheVariants as helper
 use Rattle.class_file.specs.declared.row.Row.{Row}
 use Rattle.class_file.specs.declared.row.Row.TheVariants as row
 use Rattle.class_file.specs.declared.row.Operator.{Operator}
+use Rattle.class_file.specs.declared.row.Test.{Test}
 use Rattle.class_file.specs.declared.class.Set.{Set}
-use Rattle.class_file.specs.Rows.{row_of}
+use Rattle.class_file.specs.Rows.{row_of, target}
 use Rattle.class_file.specs.Pools.{Constant, Number, Literal}
 use Rattle.class_file.specs.Natives.{Object, TextObject, NativeEffect, Makes, Writes, native_effect, text_in, given_text, as_text, both_texts, text_argument}
 use Rattle.class_file.specs.Lots.{CallsNative, native_params, native_called}
-use Rattle.class_file.specs.Machine.{Active, State, Next, Static, callee, with, with_started, is_marked, starting, unstarted, Popped, popped, static_call, step, on_from, resolve, constant, effect, after, executed, loaded, invoked, run, native_step, has_kind, is_narrow, int_answer, or_zero_divisor, handed, places, stored, Effect, Goes, Fails}
-use Rattle.stack_code.specs.Code.{native_of, Operation, PushInt, PushText, Load, Store, Compute, Negate, Discard, Call, Leave, bytes_of}
+use Rattle.class_file.specs.Machine.{Active, State, Next, Static, callee, with, with_started, is_marked, starting, unstarted, Popped, popped, static_call, step, on_from, resolve, constant, effect, after, executed, loaded, invoked, run, native_step, has_kind, is_narrow, int_answer, or_zero_divisor, holds, handed, places, stored, Effect, Goes, Fails}
+use Rattle.stack_code.specs.Code.{native_of, Operation, PushInt, PushText, Load, Store, Compute, Negate, Discard, Call, Jump, JumpIf, JumpCompare, Leave, bytes_of, bit}
 use Rattle.stack_code.proofs.Runs.{Spot, live, At}
 
 -- the running frame
@@ -73,6 +75,15 @@ module _ (set : Set) (o : Spot) where
   pub compute : (at : ℕ) (ls st : List Slot) (h : List Object) (s : Known) (p : Operator) (x y : ℤ) → At set o at (Compute p) → on_from set 1 (live o at ls (slot.Int y ∷ slot.Int x ∷ st) h s) ≡ after set (state o at ls (slot.Int y ∷ slot.Int x ∷ st) h s) (frame o at ls (slot.Int y ∷ slot.Int x ∷ st)) o.rest (at + 1) (or_zero_divisor (int_answer p x y) (λ n. Goes (at + 1) ls (slot.Int n ∷ st)))
   compute at ls st h s p x y a = by_row at ls (slot.Int y ∷ slot.Int x ∷ st) h s (Compute p) a (row.IntBinary p) a.stands
 
+  pub jump : (at : ℕ) (ls st : List Slot) (h : List Object) (s : Known) (d : ℤ) (to : ℕ) → At set o at (Jump d) → target at d ≡ to → on_from set 1 (live o at ls st h s) ≡ live o to ls st h s
+  jump at ls st h s d to a e = by_row at ls st h s (Jump d) a (row.Goto (target at d)) a.stands ∙ ap (λ n. live o n ls st h s) e
+
+  pub jump_if : (at : ℕ) (ls st : List Slot) (h : List Object) (s : Known) (t : Test) (n : ℕ) (z : ℤ) (b : Bool) → At set o at (JumpIf t n) → holds t z (pos 0) ≡ b → on_from set 1 (live o at ls (slot.Int z ∷ st) h s) ≡ live o (if b then at + n else at + 3) ls st h s
+  jump_if at ls st h s t n z b a e = by_row at ls (slot.Int z ∷ st) h s (JumpIf t n) a (row.IfZero t (at + n)) a.stands ∙ ap (λ b. live o (if b then at + n else at + 3) ls st h s) e
+
+  pub jump_compare : (at : ℕ) (ls st : List Slot) (h : List Object) (s : Known) (t : Test) (n : ℕ) (x y : ℤ) (b : Bool) → At set o at (JumpCompare t n) → holds t x y ≡ b → on_from set 1 (live o at ls (slot.Int y ∷ slot.Int x ∷ st) h s) ≡ live o (if b then at + n else at + 3) ls st h s
+  jump_compare at ls st h s t n x y b a e = by_row at ls (slot.Int y ∷ slot.Int x ∷ st) h s (JumpCompare t n) a (row.IfCompare t (at + n)) a.stands ∙ ap (λ b. live o (if b then at + n else at + 3) ls st h s) e
+
   -- a store of a value that takes one place
   pub store : (at : ℕ) (ls st : List Slot) (h : List Object) (s : Known) (k : SlotKind) (x : ℕ) (v : Slot) → At set o at (Store k x) → has_kind k v ≡ true → nat_lt (length ls) (x + places k) ≡ false → stored k x v ls ≡ slice_set ls x v → on_from set 1 (live o at ls (v ∷ st) h s) ≡ live o (at + bytes_of (Store k x)) (slice_set ls x v) st h s
   store at ls st h s k x v a e f g =
@@ -123,6 +134,11 @@ module _ (set : Set) (o : Spot) where
   pub call_of_int : (at : ℕ) (ls st : List Slot) (h : List Object) (s : Known) (z : ℤ) → At set o at (Call helper.TextsOfInt) → on_from set 1 (live o at ls (slot.Int z ∷ st) h s) ≡ live o (at + 3) ls (slot.Ref (length h) ∷ st) (h ++ TextObject (signed_decimal z) ∷ []) s
   unfolding native_effect
   call_of_int at ls st h s z a = by_call at ls (slot.Int z ∷ st) h s helper.TextsOfInt a (record { args = slot.Int z ∷ []; rest = st }) refl
+
+  pub call_of_boolean : (at : ℕ) (ls st : List Slot) (h : List Object) (s : Known) (b : Bool) → At set o at (Call helper.TextsOfBoolean) → on_from set 1 (live o at ls (slot.Int (bit b) ∷ st) h s) ≡ live o (at + 3) ls (slot.Ref (length h) ∷ st) (h ++ TextObject (truth_text b) ∷ []) s
+  unfolding native_effect
+  call_of_boolean at ls st h s true a = by_call at ls (slot.Int (pos 1) ∷ st) h s helper.TextsOfBoolean a (record { args = slot.Int (pos 1) ∷ []; rest = st }) refl
+  call_of_boolean at ls st h s false a = by_call at ls (slot.Int (pos 0) ∷ st) h s helper.TextsOfBoolean a (record { args = slot.Int (pos 0) ∷ []; rest = st }) refl
 
   pub call_concat : (at : ℕ) (ls st : List Slot) (h : List Object) (s : Known) (r q : ℕ) (t u : List ℕ) → At set o at (Call helper.TextsConcat) → slice_get h r ≡ Some (TextObject t) → slice_get h q ≡ Some (TextObject u) → on_from set 1 (live o at ls (slot.Ref q ∷ slot.Ref r ∷ st) h s) ≡ live o (at + 3) ls (slot.Ref (length h) ∷ st) (h ++ TextObject (t ++ u) ∷ []) s
   unfolding native_effect

@@ -1,6 +1,6 @@
 -- Texts that are put together, and calls of natives: their code does what they do.
 use Rattle.std.proofs.Common.{◌≡◌, ℕ, suc, ◌+◌, List, [], ◌∷◌, ◌++◌, length, map, Some, refl, ap, ◌∙◌, subst, arith}
-use Rattle.std.specs.Prelude.{slice_get}
+use Rattle.std.specs.Prelude.{slice_get, codes}
 use Rattle.std.specs.Fmt.{signed_decimal}
 use Rattle.kc_text.specs.Unicode.{utf8_of}
 use Rattle.kc_core.specs.declared.tree.TypeTree.{TypeTree}
@@ -8,18 +8,18 @@ use Rattle.kc_core.specs.declared.tree.TypeTree.TheVariants as type_is
 use Rattle.kc_core.specs.declared.tree.Native.TheVariants as native_kind
 use Rattle.kc_core.specs.declared.tree.Span.{Span}
 use Rattle.kc_core.specs.declared.tree.Core.{Core}
-use Rattle.kc_core.specs.Values.{Value, Int, Text, UnitValue, text_of}
-use Rattle.kc_core.specs.Meaning.{State, Completion, then_do, enter, checked, joined, operands, on_text, native}
+use Rattle.kc_core.specs.Values.{Value, Int, Boolean, Text, UnitValue, truth_text, text_of}
+use Rattle.kc_core.specs.Meaning.{State, Completion, then_do, enter, checked, joined, operands, native}
 use Rattle.class_file.specs.declared.value.Value.{Value as Slot}
 use Rattle.class_file.specs.declared.value.Value.TheVariants as slot
 use Rattle.stack_code.specs.declared.constants.Helper.TheVariants as helper
 use Rattle.class_file.specs.declared.class.Set.{Set}
 use Rattle.class_file.specs.Natives.{Object, TextObject}
-use Rattle.class_file.specs.Machine.{on_from}
+use Rattle.class_file.specs.Machine.{Next, on_from}
 use Rattle.stack_code.specs.Code.{Operation, Call, bytes, Several, further_texts, texts, values, whole, to_text, code_of}
 use Rattle.stack_code.proofs.Runs.{Grows, grows_none, grows_on, Represents, represents_on, Typed, Held, held_on, Spot, live, HasAt, has_front, has_back, Sized, factor, Reaches, Run, run_on, run_own, bind, own, ends_at, wider, Follows, Inside, with_check, entered}
-use Rattle.stack_code.proofs.Steps.{push_text, call_of_int, call_concat, call_write}
-use Rattle.stack_code.proofs.Lists.{get_new, grows_more}
+use Rattle.stack_code.proofs.Steps.{push_text, call_of_int, call_of_boolean, call_concat, call_write}
+use Rattle.stack_code.proofs.Lists.{bytes_append, get_new, grows_more}
 use Rattle.stack_code.proofs.Several.{AllSized, Readies, first_ready, between_at, more_ready, Does}
 
 -- these values stand on the stack, over another one
@@ -32,52 +32,65 @@ module _ (set : Set) (S : ℕ) (d : ℕ) (ev : Core → State → Completion) (s
   abbrev Further : Several → (List ℕ → State → Completion) → Type 0
   Further x f = (text : List ℕ) (r : ℕ) (s : State) (o : Spot) (at : ℕ) (ls st : List Slot) (h : List Object) → slice_get h r ≡ Some (TextObject text) → Readies set S d ev sized ih x s o at ls h → Run set S o Represents (live o at ls (slot.Ref r ∷ st) h s) h s.units 2 x.nodes ls (at + x.size) st (f text s)
 
-  -- a value becomes a text and comes behind the text below it
-  appended : (o : Spot) (at end : ℕ) (ls st : List Slot) (h : List Object) (s : State) (B : ℕ) (span : Span) (ty : TypeTree) (v : Value) (xs : List Slot) (r : ℕ) (text : List ℕ) (go : List ℕ → State → Completion) → HasAt set o at (to_text ty ++ Call helper.TextsConcat ∷ []) → Typed ty h v xs → Held h ls s.locals → slice_get h r ≡ Some (TextObject text) → ((u : List ℕ) (h1 : List Object) (q : ℕ) → Held h1 ls s.locals → slice_get h1 q ≡ Some (TextObject (text ++ u)) → Run set S o Represents (live o (at + bytes (to_text ty ++ Call helper.TextsConcat ∷ [])) ls (slot.Ref q ∷ st) h1 s) h1 s.units 2 B ls end st (go (text ++ u) s)) → Run set S o Represents (live o at ls (xs ++ (slot.Ref r ∷ st)) h s) h s.units 4 B ls end st (on_text span (text_of v) (λ u. go (text ++ u)) s)
-  appended o at end ls st h s B span type_is.Int (Int z) xs r text go code is held there run =
-      run_own set S 2 o Represents end st (live o at ls (xs ++ (slot.Ref r ∷ st)) h s) (live o (at + 6) ls (slot.Ref (length h1) ∷ st) h2 s) h h2 4 2 B ls ls s (omega arith)
-      (ap (λ ys. on_from set 2 (live o at ls (ys ++ (slot.Ref r ∷ st)) h s)) is.1 ∙ ap (on_from set 1) (call_of_int set o at ls (slot.Ref r ∷ st) h s z code.0)
-      ∙ call_concat set o (at + 3) ls st h1 s r (length h) text (signed_decimal z) code.1.0 ((grows_more h (TextObject (signed_decimal z))).stays r (TextObject text) there) (get_new h (TextObject (signed_decimal z)))
-      ∙ (let e : at + 3 + 3 ≡ at + 6 = omega arith in ap (λ n. live o n ls (slot.Ref (length h1) ∷ st) h2 s) e))
-      grown held2 refl (go (text ++ signed_decimal z) s)
-      (run (signed_decimal z) h2 (length h1) held2 (get_new h1 (TextObject (text ++ signed_decimal z))))
+  -- one step makes a text
+  made : (o : Spot) (to end : ℕ) (ls st below : List Slot) (h : List Object) (s : State) (B A : ℕ) (c : Next) (text : List ℕ) (r : Completion) → on_from set 1 c ≡ live o to ls (slot.Ref (length h) ∷ st) (h ++ TextObject text ∷ []) s → Held h ls s.locals → ((h1 : List Object) (q : ℕ) → Grows h h1 → Held h1 ls s.locals → slice_get h1 q ≡ Some (TextObject text) → Run set S o Represents (live o to ls (slot.Ref q ∷ st) h1 s) h1 s.units A B ls end below r) → Run set S o Represents c h s.units (A + 1) B ls end below r
+  made o to end ls st below h s B A c text r runs held rest =
+      run_own set S 1 o Represents end below c (live o to ls (slot.Ref (length h) ∷ st) h1 s) h h1 (A + 1) A B ls ls s (omega arith) runs grown held1 refl r
+      (rest h1 (length h) grown held1 (get_new h (TextObject text)))
     where
       h1 : List Object
-      h1 = h ++ TextObject (signed_decimal z) ∷ []
+      h1 = h ++ TextObject text ∷ []
 
-      h2 : List Object
-      h2 = h1 ++ TextObject (text ++ signed_decimal z) ∷ []
-
-      grown : Grows h h2
-      grown = grows_on h h1 h2 (grows_more h (TextObject (signed_decimal z))) (grows_more h1 (TextObject (text ++ signed_decimal z)))
-
-      held2 : Held h2 ls s.locals
-      held2 = held_on h h2 ls s.locals grown held
-  appended o at end ls st h s B span type_is.String (Text t) xs r text go code is held there run =
-      run_own set S 1 o Represents end st (live o at ls (xs ++ (slot.Ref r ∷ st)) h s) (live o (at + 3) ls (slot.Ref (length h) ∷ st) h1 s) h h1 4 2 B ls ls s (omega arith)
-      (ap (λ ys. on_from set 1 (live o at ls (ys ++ (slot.Ref r ∷ st)) h s)) is.1.1 ∙ call_concat set o at ls st h s r is.1.0 text t code.0 there is.1.2)
-      (grows_more h (TextObject (text ++ t))) held1 refl (go (text ++ t) s)
-      (run t h1 (length h) held1 (get_new h (TextObject (text ++ t))))
-    where
-      h1 : List Object
-      h1 = h ++ TextObject (text ++ t) ∷ []
+      grown : Grows h h1
+      grown = grows_more h (TextObject text)
 
       held1 : Held h1 ls s.locals
-      held1 = held_on h h1 ls s.locals (grows_more h (TextObject (text ++ t))) held
-  appended o at end ls st h s B span type_is.Unit UnitValue xs r text go code is held there run = tt
-  appended o at end ls st h s B span type_is.Int (Text t) xs r text go code is held there run = absurd (let q = is.0 in cc)
-  appended o at end ls st h s B span type_is.Int UnitValue xs r text go code is held there run = tt
-  appended o at end ls st h s B span type_is.String (Int z) xs r text go code is held there run = absurd (let q = is.0 in cc)
-  appended o at end ls st h s B span type_is.String UnitValue xs r text go code is held there run = tt
-  appended o at end ls st h s B span type_is.Unit (Int z) xs r text go code is held there run = absurd (let q = is.0 in cc)
-  appended o at end ls st h s B span type_is.Unit (Text t) xs r text go code is held there run = absurd (let q = is.0 in cc)
+      held1 = held_on h h1 ls s.locals grown held
 
-  further_follow : (span : Span) (es : List Core) → Further (further_texts (map code_of es)) (joined span ev es)
-  further_follow span [] text r s o at ls st h there ready =
+  -- a value becomes its text
+  turned : (o : Spot) (at end : ℕ) (ls st below : List Slot) (h : List Object) (s : State) (B : ℕ) (ty : TypeTree) (v : Value) (xs : List Slot) (r : Completion) → HasAt set o at (to_text ty) → Typed ty h v xs → Held h ls s.locals → ((h1 : List Object) (q : ℕ) → Grows h h1 → Held h1 ls s.locals → slice_get h1 q ≡ Some (TextObject (text_of v)) → Run set S o Represents (live o (at + bytes (to_text ty)) ls (slot.Ref q ∷ st) h1 s) h1 s.units 3 B ls end below r) → Run set S o Represents (live o at ls (xs ++ st) h s) h s.units 4 B ls end below r
+  turned o at end ls st below h s B type_is.Int (Int z) xs r code is held rest =
+      made o (at + 3) end ls st below h s B 3 (live o at ls (xs ++ st) h s) (signed_decimal z) r
+      (ap (λ ys. on_from set 1 (live o at ls (ys ++ st) h s)) is.1 ∙ call_of_int set o at ls st h s z code.0) held rest
+  turned o at end ls st below h s B type_is.Boolean (Boolean b) xs r code is held rest =
+      made o (at + 3) end ls st below h s B 3 (live o at ls (xs ++ st) h s) (truth_text b) r
+      (ap (λ ys. on_from set 1 (live o at ls (ys ++ st) h s)) is.1 ∙ call_of_boolean set o at ls st h s b code.0) held rest
+  turned o at end ls st below h s B type_is.String (Text t) xs r code is held rest =
+      run_own set S 0 o Represents end below (live o at ls (xs ++ st) h s) (live o (at + 0) ls (slot.Ref is.1.0 ∷ st) h s) h h 4 3 B ls ls s (omega arith)
+      (let e : at ≡ at + 0 = omega arith in ap (λ ys. live o at ls (ys ++ st) h s) is.1.1 ∙ ap (λ n. live o n ls (slot.Ref is.1.0 ∷ st) h s) e)
+      (grows_none h) held refl r (rest h is.1.0 (grows_none h) held is.1.2)
+  turned o at end ls st below h s B type_is.Unit UnitValue xs r code is held rest =
+      made o (at + 3) end ls st below h s B 3 (live o at ls (xs ++ st) h s) (codes "kotlin.Unit") r
+      (ap (λ ys. on_from set 1 (live o at ls (ys ++ st) h s)) is.1 ∙ push_text set o at ls st h s (codes "kotlin.Unit") code.0) held rest
+  turned o at end ls st below h s B type_is.Int (Boolean b) xs r code is held rest = absurd (let q = is.0 in cc)
+  turned o at end ls st below h s B type_is.Int (Text t) xs r code is held rest = absurd (let q = is.0 in cc)
+  turned o at end ls st below h s B type_is.Int UnitValue xs r code is held rest = absurd (let q = is.0 in cc)
+  turned o at end ls st below h s B type_is.Boolean (Int z) xs r code is held rest = absurd (let q = is.0 in cc)
+  turned o at end ls st below h s B type_is.Boolean (Text t) xs r code is held rest = absurd (let q = is.0 in cc)
+  turned o at end ls st below h s B type_is.Boolean UnitValue xs r code is held rest = absurd (let q = is.0 in cc)
+  turned o at end ls st below h s B type_is.String (Int z) xs r code is held rest = absurd (let q = is.0 in cc)
+  turned o at end ls st below h s B type_is.String (Boolean b) xs r code is held rest = absurd (let q = is.0 in cc)
+  turned o at end ls st below h s B type_is.String UnitValue xs r code is held rest = absurd (let q = is.0 in cc)
+  turned o at end ls st below h s B type_is.Unit (Int z) xs r code is held rest = absurd (let q = is.0 in cc)
+  turned o at end ls st below h s B type_is.Unit (Boolean b) xs r code is held rest = absurd (let q = is.0 in cc)
+  turned o at end ls st below h s B type_is.Unit (Text t) xs r code is held rest = absurd (let q = is.0 in cc)
+
+  -- a value becomes its text and comes behind the text below it
+  appended : (o : Spot) (at end : ℕ) (ls st : List Slot) (h : List Object) (s : State) (B : ℕ) (ty : TypeTree) (v : Value) (xs : List Slot) (q : ℕ) (text : List ℕ) (r : Completion) → HasAt set o at (to_text ty ++ Call helper.TextsConcat ∷ []) → Typed ty h v xs → Held h ls s.locals → slice_get h q ≡ Some (TextObject text) → ((h1 : List Object) (p : ℕ) → Held h1 ls s.locals → slice_get h1 p ≡ Some (TextObject (text ++ text_of v)) → Run set S o Represents (live o (at + bytes (to_text ty ++ Call helper.TextsConcat ∷ [])) ls (slot.Ref p ∷ st) h1 s) h1 s.units 2 B ls end st r) → Run set S o Represents (live o at ls (xs ++ (slot.Ref q ∷ st)) h s) h s.units 4 B ls end st r
+  appended o at end ls st h s B ty v xs q text r code is held there rest =
+      turned o at end ls (slot.Ref q ∷ st) st h s B ty v xs r (has_front set o at (to_text ty) (Call helper.TextsConcat ∷ []) code) is held
+      (λ h1 p grown held1 found.
+      made o (at + bytes (to_text ty ++ Call helper.TextsConcat ∷ [])) end ls st st h1 s B 2 (live o (at + bytes (to_text ty)) ls (slot.Ref p ∷ slot.Ref q ∷ st) h1 s) (text ++ text_of v) r
+      (call_concat set o (at + bytes (to_text ty)) ls st h1 s q p text (text_of v) (has_back set o at (to_text ty) (Call helper.TextsConcat ∷ []) code).0 (grown.stays q (TextObject text) there) found
+      ∙ ap (λ n. live o n ls (slot.Ref (length h1) ∷ st) (h1 ++ TextObject (text ++ text_of v) ∷ []) s) (let e = bytes_append (to_text ty) (Call helper.TextsConcat ∷ []) in let i : at + bytes (to_text ty) + 3 ≡ at + bytes (to_text ty ++ Call helper.TextsConcat ∷ []) = omega (arith, e) in i))
+      held1 (λ h2 m grown2 held2 found2. rest h2 m held2 found2))
+
+  further_follow : (es : List Core) → Further (further_texts (map code_of es)) (joined ev es)
+  further_follow [] text r s o at ls st h there ready =
       own set S 0 (live o at ls (slot.Ref r ∷ st) h s) h 2 0 ls ls h (slot.Ref r ∷ []) (λ h' ys. Represents h' (Text text) ys) s (λ ls' h' ys. live o (at + 0) ls' (ys ++ st) h' s) (omega arith)
       (let e : at ≡ at + 0 = omega arith in ap (λ n. live o n ls (slot.Ref r ∷ st) h s) e) (r, refl, there) (grows_none h) ready.held refl
-  further_follow span (e ∷ es) text r s o at ls st h there ready =
-      bind set S o (Typed (code_of e).ty) Represents (at + (code_of e).size) end (slot.Ref r ∷ st) st (live o at ls (slot.Ref r ∷ st) h s) h s.units 2 ((code_of e).nodes + more.nodes) 0 (code_of e).nodes ls (omega arith) (omega arith) (λ v. on_text span (text_of v) (λ u. joined span ev es (text ++ u))) (last (further_follow span es)) (ev e s)
+  further_follow (e ∷ es) text r s o at ls st h there ready =
+      bind set S o (Typed (code_of e).ty) Represents (at + (code_of e).size) end (slot.Ref r ∷ st) st (live o at ls (slot.Ref r ∷ st) h s) h s.units 2 ((code_of e).nodes + more.nodes) 0 (code_of e).nodes ls (omega arith) (omega arith) (λ v. joined ev es (text ++ text_of v)) (last (further_follow es)) (ev e s)
       (ih e s o at ls (slot.Ref r ∷ st) h (first_ready set S d ev sized ih e between more s o at ls h ready))
     where
       more : Several
@@ -92,43 +105,17 @@ module _ (set : Set) (S : ℕ) (d : ℕ) (ev : Core → State → Completion) (s
       next : ℕ
       next = at + (code_of e).size + bytes between
 
-      last : Further (further_texts (map code_of es)) (joined span ev es) → (v : Value) (s1 : State) → Reaches set S (live o at ls (slot.Ref r ∷ st) h s) h s.units 0 (code_of e).nodes ls (λ h' xs. Typed (code_of e).ty h' v xs) s1 (λ ls' h' xs. live o (at + (code_of e).size) ls' (xs ++ (slot.Ref r ∷ st)) h' s1) → Run set S o Represents (live o at ls (slot.Ref r ∷ st) h s) h s.units 2 ((code_of e).nodes + more.nodes) ls end st (on_text span (text_of v) (λ u. joined span ev es (text ++ u)) s1)
+      last : Further (further_texts (map code_of es)) (joined ev es) → (v : Value) (s1 : State) → Reaches set S (live o at ls (slot.Ref r ∷ st) h s) h s.units 0 (code_of e).nodes ls (λ h' xs. Typed (code_of e).ty h' v xs) s1 (λ ls' h' xs. live o (at + (code_of e).size) ls' (xs ++ (slot.Ref r ∷ st)) h' s1) → Run set S o Represents (live o at ls (slot.Ref r ∷ st) h s) h s.units 2 ((code_of e).nodes + more.nodes) ls end st (joined ev es (text ++ text_of v) s1)
       last again v s1 g =
-          run_on set S o Represents end st (live o at ls (slot.Ref r ∷ st) h s) h s.units 2 ((code_of e).nodes + more.nodes) 0 (code_of e).nodes 4 more.nodes ls s1 (λ h' xs. Typed (code_of e).ty h' v xs) (λ ls' h' xs. live o (at + (code_of e).size) ls' (xs ++ (slot.Ref r ∷ st)) h' s1) g (omega arith) (omega arith) (on_text span (text_of v) (λ u. joined span ev es (text ++ u)) s1)
-          (appended o (at + (code_of e).size) end g.ls' st g.h' s1 more.nodes span (code_of e).ty v g.xs r text (joined span ev es) (has_front set o (at + (code_of e).size) between more.code (between_at set S d ev sized ih e between more s o at ls h ready)) g.is g.held (g.grows.stays r (TextObject text) there)
-          (λ u h1 q held1 there1.
-          ends_at set S o Represents (live o next g.ls' (slot.Ref q ∷ st) h1 s1) h1 s1.units 2 more.nodes g.ls' (next + more.size) end st (joined span ev es (text ++ u) s1) (omega arith)
-          (again (text ++ u) q s1 o next g.ls' st h1 there1 (more_ready set S d ev sized ih e between more s s1 o at next ls g.ls' h h1 ready (omega (arith, g.units)) held1 refl))))
+          run_on set S o Represents end st (live o at ls (slot.Ref r ∷ st) h s) h s.units 2 ((code_of e).nodes + more.nodes) 0 (code_of e).nodes 4 more.nodes ls s1 (λ h' xs. Typed (code_of e).ty h' v xs) (λ ls' h' xs. live o (at + (code_of e).size) ls' (xs ++ (slot.Ref r ∷ st)) h' s1) g (omega arith) (omega arith) (joined ev es (text ++ text_of v) s1)
+          (appended o (at + (code_of e).size) end g.ls' st g.h' s1 more.nodes (code_of e).ty v g.xs r text (joined ev es (text ++ text_of v) s1) (has_front set o (at + (code_of e).size) between more.code (between_at set S d ev sized ih e between more s o at ls h ready)) g.is g.held (g.grows.stays r (TextObject text) there)
+          (λ h1 q held1 there1.
+          ends_at set S o Represents (live o next g.ls' (slot.Ref q ∷ st) h1 s1) h1 s1.units 2 more.nodes g.ls' (next + more.size) end st (joined ev es (text ++ text_of v) s1) (omega arith)
+          (again (text ++ text_of v) q s1 o next g.ls' st h1 there1 (more_ready set S d ev sized ih e between more s s1 o at next ls g.ls' h h1 ready (omega (arith, g.units)) held1 refl))))
 
-  -- a value becomes a text
-  turned : (o : Spot) (at end : ℕ) (ls st : List Slot) (h : List Object) (s : State) (B : ℕ) (span : Span) (ty : TypeTree) (v : Value) (xs : List Slot) (go : List ℕ → State → Completion) → HasAt set o at (to_text ty) → Typed ty h v xs → Held h ls s.locals → ((u : List ℕ) (h1 : List Object) (q : ℕ) → Held h1 ls s.locals → slice_get h1 q ≡ Some (TextObject u) → Run set S o Represents (live o (at + bytes (to_text ty)) ls (slot.Ref q ∷ st) h1 s) h1 s.units 2 B ls end st (go u s)) → Run set S o Represents (live o at ls (xs ++ st) h s) h s.units 4 B ls end st (on_text span (text_of v) go s)
-  turned o at end ls st h s B span type_is.Int (Int z) xs go code is held run =
-      run_own set S 1 o Represents end st (live o at ls (xs ++ st) h s) (live o (at + 3) ls (slot.Ref (length h) ∷ st) h1 s) h h1 4 2 B ls ls s (omega arith)
-      (ap (λ ys. on_from set 1 (live o at ls (ys ++ st) h s)) is.1 ∙ call_of_int set o at ls st h s z code.0)
-      (grows_more h (TextObject (signed_decimal z))) held1 refl (go (signed_decimal z) s)
-      (run (signed_decimal z) h1 (length h) held1 (get_new h (TextObject (signed_decimal z))))
-    where
-      h1 : List Object
-      h1 = h ++ TextObject (signed_decimal z) ∷ []
-
-      held1 : Held h1 ls s.locals
-      held1 = held_on h h1 ls s.locals (grows_more h (TextObject (signed_decimal z))) held
-  turned o at end ls st h s B span type_is.String (Text t) xs go code is held run =
-      run_own set S 0 o Represents end st (live o at ls (xs ++ st) h s) (live o (at + 0) ls (slot.Ref is.1.0 ∷ st) h s) h h 4 2 B ls ls s (omega arith)
-      (let e : at ≡ at + 0 = omega arith in ap (λ ys. live o at ls (ys ++ st) h s) is.1.1 ∙ ap (λ n. live o n ls (slot.Ref is.1.0 ∷ st) h s) e)
-      (grows_none h) held refl (go t s)
-      (run t h is.1.0 held is.1.2)
-  turned o at end ls st h s B span type_is.Unit UnitValue xs go code is held run = tt
-  turned o at end ls st h s B span type_is.Int (Text t) xs go code is held run = absurd (let q = is.0 in cc)
-  turned o at end ls st h s B span type_is.Int UnitValue xs go code is held run = tt
-  turned o at end ls st h s B span type_is.String (Int z) xs go code is held run = absurd (let q = is.0 in cc)
-  turned o at end ls st h s B span type_is.String UnitValue xs go code is held run = tt
-  turned o at end ls st h s B span type_is.Unit (Int z) xs go code is held run = absurd (let q = is.0 in cc)
-  turned o at end ls st h s B span type_is.Unit (Text t) xs go code is held run = absurd (let q = is.0 in cc)
-
-  texts_follow : (span : Span) (e : Core) (es : List Core) → Does set S d ev sized ih (texts (map code_of (e ∷ es))) (joined span ev (e ∷ es) [])
-  texts_follow span e es s o at ls st h ready =
-      bind set S o (Typed (code_of e).ty) Represents (at + (code_of e).size) end st st (live o at ls st h s) h s.units 2 ((code_of e).nodes + more.nodes) 0 (code_of e).nodes ls (omega arith) (omega arith) (λ v. on_text span (text_of v) (λ u. joined span ev es u)) last (ev e s)
+  texts_follow : (e : Core) (es : List Core) → Does set S d ev sized ih (texts (map code_of (e ∷ es))) (joined ev (e ∷ es) [])
+  texts_follow e es s o at ls st h ready =
+      bind set S o (Typed (code_of e).ty) Represents (at + (code_of e).size) end st st (live o at ls st h s) h s.units 2 ((code_of e).nodes + more.nodes) 0 (code_of e).nodes ls (omega arith) (omega arith) (λ v. joined ev es (text_of v)) last (ev e s)
       (ih e s o at ls st h (first_ready set S d ev sized ih e between more s o at ls h ready))
     where
       more : Several
@@ -143,22 +130,22 @@ module _ (set : Set) (S : ℕ) (d : ℕ) (ev : Core → State → Completion) (s
       next : ℕ
       next = at + (code_of e).size + bytes between
 
-      last : (v : Value) (s1 : State) → Reaches set S (live o at ls st h s) h s.units 0 (code_of e).nodes ls (λ h' xs. Typed (code_of e).ty h' v xs) s1 (λ ls' h' xs. live o (at + (code_of e).size) ls' (xs ++ st) h' s1) → Run set S o Represents (live o at ls st h s) h s.units 2 ((code_of e).nodes + more.nodes) ls end st (on_text span (text_of v) (λ u. joined span ev es u) s1)
+      last : (v : Value) (s1 : State) → Reaches set S (live o at ls st h s) h s.units 0 (code_of e).nodes ls (λ h' xs. Typed (code_of e).ty h' v xs) s1 (λ ls' h' xs. live o (at + (code_of e).size) ls' (xs ++ st) h' s1) → Run set S o Represents (live o at ls st h s) h s.units 2 ((code_of e).nodes + more.nodes) ls end st (joined ev es (text_of v) s1)
       last v s1 g =
-          run_on set S o Represents end st (live o at ls st h s) h s.units 2 ((code_of e).nodes + more.nodes) 0 (code_of e).nodes 4 more.nodes ls s1 (λ h' xs. Typed (code_of e).ty h' v xs) (λ ls' h' xs. live o (at + (code_of e).size) ls' (xs ++ st) h' s1) g (omega arith) (omega arith) (on_text span (text_of v) (λ u. joined span ev es u) s1)
-          (turned o (at + (code_of e).size) end g.ls' st g.h' s1 more.nodes span (code_of e).ty v g.xs (joined span ev es) (has_front set o (at + (code_of e).size) between more.code (between_at set S d ev sized ih e between more s o at ls h ready)) g.is g.held
-          (λ u h1 q held1 there1.
-          ends_at set S o Represents (live o next g.ls' (slot.Ref q ∷ st) h1 s1) h1 s1.units 2 more.nodes g.ls' (next + more.size) end st (joined span ev es u s1) (omega arith)
-          (further_follow span es u q s1 o next g.ls' st h1 there1 (more_ready set S d ev sized ih e between more s s1 o at next ls g.ls' h h1 ready (omega (arith, g.units)) held1 refl))))
+          run_on set S o Represents end st (live o at ls st h s) h s.units 2 ((code_of e).nodes + more.nodes) 0 (code_of e).nodes 4 more.nodes ls s1 (λ h' xs. Typed (code_of e).ty h' v xs) (λ ls' h' xs. live o (at + (code_of e).size) ls' (xs ++ st) h' s1) g (omega arith) (omega arith) (joined ev es (text_of v) s1)
+          (turned o (at + (code_of e).size) end g.ls' st st g.h' s1 more.nodes (code_of e).ty v g.xs (joined ev es (text_of v) s1) (has_front set o (at + (code_of e).size) between more.code (between_at set S d ev sized ih e between more s o at ls h ready)) g.is g.held
+          (λ h1 q grown1 held1 there1.
+          wider set S o (next + more.size) end (live o next g.ls' (slot.Ref q ∷ st) h1 s1) h1 s1.units 2 3 more.nodes g.ls' st (joined ev es (text_of v) s1) (omega arith) (omega arith)
+          (further_follow es (text_of v) q s1 o next g.ls' st h1 there1 (more_ready set S d ev sized ih e between more s s1 o at next ls g.ls' h h1 ready (omega (arith, g.units)) held1 refl))))
 
-  pub concat_follows : (ty : TypeTree) (span : Span) (es : List Core) → Follows set S (suc d) (whole (texts (map code_of es)) [] ty) (λ s. enter s.units s (λ s1. then_do (joined span ev es [] s1) (checked span ty)))
-  concat_follows ty span es = entered set S d (texts (map code_of es)).nodes (whole (texts (map code_of es)) [] ty) _ (omega arith) (with_check set S d (texts (map code_of es)).nodes (whole (texts (map code_of es)) [] ty) span (joined span ev es []) (inside es))
+  pub concat_follows : (ty : TypeTree) (span : Span) (es : List Core) → Follows set S (suc d) (whole (texts (map code_of es)) [] ty) (λ s. enter s.units s (λ s1. then_do (joined ev es [] s1) (checked span ty)))
+  concat_follows ty span es = entered set S d (texts (map code_of es)).nodes (whole (texts (map code_of es)) [] ty) _ (omega arith) (with_check set S d (texts (map code_of es)).nodes (whole (texts (map code_of es)) [] ty) span (joined ev es []) (inside es))
     where
-      inside : (es : List Core) → Inside set S d (texts (map code_of es)).nodes (whole (texts (map code_of es)) [] ty) (joined span ev es [])
+      inside : (es : List Core) → Inside set S d (texts (map code_of es)).nodes (whole (texts (map code_of es)) [] ty) (joined ev es [])
       inside [] s o at ls st h ready =
           own set S 1 (live o at ls st h s) h factor 0 ls ls (h ++ TextObject [] ∷ []) (slot.Ref (length h) ∷ []) (λ h' ys. Represents h' (Text []) ys) s (λ ls' h' ys. live o (at + 3) ls' (ys ++ st) h' s) (omega arith)
           (push_text set o at ls st h s [] ready.code.0) (length h, refl, get_new h (TextObject [])) (grows_more h (TextObject [])) (held_on h (h ++ TextObject [] ∷ []) ls s.locals (grows_more h (TextObject [])) ready.held) refl
-      inside (e ∷ es) s o at ls st h ready = wider set S o (at + x.size) (at + (x.size + 0)) (live o at ls st h s) h s.units 2 factor x.nodes ls st (joined span ev (e ∷ es) [] s) (omega arith) (omega arith) (texts_follow span e es s o at ls st h
+      inside (e ∷ es) s o at ls st h ready = wider set S o (at + x.size) (at + (x.size + 0)) (live o at ls st h s) h s.units 2 factor x.nodes ls st (joined ev (e ∷ es) [] s) (omega arith) (omega arith) (texts_follow e es s o at ls st h
           (record { deep = ready.deep; small = omega (arith, ready.small); code = has_front set o at x.code [] ready.code; held = ready.held; quiet = ready.quiet }))
         where
           x : Several
@@ -201,6 +188,7 @@ module _ (set : Set) (S : ℕ) (d : ℕ) (ev : Core → State → Completion) (s
   write_tail span [] s o at ls st st1 h code stacked held = tt
   write_tail span (Text t ∷ v ∷ vs) s o at ls st st1 h code stacked held = tt
   write_tail span (Int z ∷ vs) s o at ls st st1 h code stacked held = tt
+  write_tail span (Boolean b ∷ vs) s o at ls st st1 h code stacked held = tt
   write_tail span (UnitValue ∷ vs) s o at ls st st1 h code stacked held = tt
 
   pub write_follows : (ty : TypeTree) (span : Span) (es : List Core) → AllSized (values (map code_of es)) → Follows set S (suc d) (whole (values (map code_of es)) (Call helper.ConsoleWrite ∷ []) ty) (λ s. enter s.units s (λ s1. then_do (operands ev es (native span native_kind.ConsoleWrite) s1) (checked span ty)))

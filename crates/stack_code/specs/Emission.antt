@@ -1,5 +1,5 @@
 -- What emitting code does to the code and to the pool.
-use Rattle.std.specs.Prelude.{◌≡◌, ℕ, Bool, true, false, List, [], ◌∷◌, ◌++◌, Some}
+use Rattle.std.specs.Prelude.{◌≡◌, ℕ, ◌+◌, Bool, true, false, List, [], ◌∷◌, ◌++◌, Some}
 use Rattle.class_file.specs.declared.instr.Instr.{Instr}
 use Rattle.class_file.specs.declared.row.Row.{Row}
 use Rattle.class_file.specs.Rows.{length_of, row_of}
@@ -8,6 +8,7 @@ use Rattle.class_file.specs.Pools.{Slots, Extends, entry_at, text_in}
 use Rattle.stack_code.specs.Code.{Operation, bytes_of, StandsFor, Spells, Emitted, texts, further_texts, discards, to_text, Call}
 use Rattle.kc_core.specs.declared.tree.TypeTree.{TypeTree}
 use Rattle.stack_code.specs.declared.constants.Helper.TheVariants as helper
+use Rattle.stack_code.specs.declared.measures.Measure.{Measure}
 
 -- The code goes on with instructions that stand for the operations, over a pool that keeps its entries.
 pub record Emits (old new : List Instr) (before after : Slots) (ops : List Operation) : Type 0 where
@@ -54,3 +55,21 @@ after_part false ty = discards ty
 abbrev pub after_text : Bool → TypeTree → List Operation
 after_text true ty = to_text ty
 after_text false ty = to_text ty ++ Call helper.TextsConcat ∷ []
+
+-- the lengths of both forms of a node's code
+pub record IsMeasure (m : Measure) (x : Emitted) : Type 0 where
+  pub value : m.value ≡ x.size
+  pub when_true : m.when_true ≡ x.test_size true
+  pub when_false : m.when_false ≡ x.test_size false
+
+-- those of code that leaves its value
+pub record IsPlain (m : Measure) (size : ℕ) : Type 0 where
+  pub value : m.value ≡ size
+  pub when_true : m.when_true ≡ size + 3
+  pub when_false : m.when_false ≡ size + 3
+
+-- those of code that tests
+pub record IsTesting (m : Measure) (when_true when_false : ℕ) : Type 0 where
+  pub value : m.value ≡ when_false + 5
+  pub when_true_is : m.when_true ≡ when_true
+  pub when_false_is : m.when_false ≡ when_false

@@ -10,7 +10,8 @@ use class_file::pool::{Entry, Pool};
 use kc_text::{Fail, Memory, Text};
 use std::alloc::Global;
 
-/// The code doesn't fit into a class file: its constants, or the numbers of its locals.
+/// The code doesn't fit into a class file: its length, its constants, the numbers of its locals, or the distance of a jump
+/// (JVM Specification SE 8, 4.11).
 #[derive(Clone, Copy, Debug, PartialEq, Eq)]
 pub struct TooLarge;
 
@@ -23,6 +24,8 @@ pub enum Helper {
     TextsConcat,
     /// The number in decimal.
     TextsOfInt,
+    /// `true` or `false`.
+    TextsOfBoolean,
 }
 
 // The index of an entry, which goes to the pool if it isn't there.
@@ -111,6 +114,13 @@ pub fn native(alloc: Global, pool: &mut Pool, helper: Helper) -> Result<u16, Fai
             b"kprof/rt/Texts",
             b"ofInt",
             b"(I)Ljava/lang/String;",
+        ),
+        Helper::TextsOfBoolean => method(
+            alloc,
+            pool,
+            b"kprof/rt/Texts",
+            b"ofBoolean",
+            b"(Z)Ljava/lang/String;",
         ),
         Helper::TextsConcat => method(
             alloc,

@@ -4,5 +4,6 @@
 pub mod constants;
 pub mod emit;
 pub mod instructions;
+pub mod measures;
 pub mod method;
 pub mod operations;

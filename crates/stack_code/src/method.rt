@@ -41,7 +41,7 @@ fn emit_body(
 /// The public static method of a function without parameters whose result is `Unit`.
 ///
 /// The pool gets the entries that the code names. It is `TooLarge` only where the code has more than 65,535 instructions, the
-/// function more than 65,535 locals, or the pool no room.
+/// function more than 65,535 locals, the pool no room, or a jump more than 32,767 bytes to pass.
 #[tactic(auto, using(crate::proofs::Emitting::emits_all))]
 pub fn emit_function(
     alloc: Global,
@@ -77,7 +77,7 @@ pub fn emit_function(
 // The most operands that stand on the stack at once while a node is evaluated.
 fn operands(node: &Core) -> usize {
     match &node.kind {
-        Kind::IntLit(_) | Kind::StrLit(_) | Kind::LocalRead(_) => 1,
+        Kind::IntLit(_) | Kind::StrLit(_) | Kind::BoolLit(_) | Kind::LocalRead(_) => 1,
         Kind::Declare {
             local: _,
             value: None,
@@ -86,14 +86,26 @@ fn operands(node: &Core) -> usize {
             local: _,
             value: Some(value),
         } => operands(value.get()),
-        Kind::NumBinary { op: _, left, right } => operands(left.get()).max(operands(
+        Kind::LocalWrite { local: _, value } => operands(value.get()),
+        Kind::NumBinary { op: _, left, right }
+        | Kind::NumCompare {
+            order: _,
+            left,
+            right,
+        }
+        | Kind::Equal { left, right } => operands(left.get()).max(operands(
             right.get(),
         ).saturating_add(1)),
         Kind::NumUnary { op: _, value } => operands(value.get()),
+        Kind::Not(value) => operands(value.get()).max(1),
+        Kind::And { left, right } | Kind::Or { left, right } => operands(left.get())
+            .max(operands(right.get()))
+            .max(1),
         Kind::Concat(parts) => {
             let mut most = 1;
             for part in parts.as_slice() {
-                most = operands(part).saturating_add(1).max(most);
+                // The value of a Unit is nothing, and its text is one operand.
+                most = operands(part).max(1).saturating_add(1).max(most);
             }
             most
         }
@@ -111,6 +123,24 @@ fn operands(node: &Core) -> usize {
             }
             most
         }
+        Kind::If {
+            test,
+            held,
+            failed: None,
+        } => operands(test.get()).max(operands(held.get())).max(1),
+        Kind::If {
+            test,
+            held,
+            failed: Some(failed),
+        } => operands(test.get())
+            .max(operands(held.get()))
+            .max(operands(failed.get()))
+            .max(1),
+        Kind::While {
+            label: _,
+            test,
+            body,
+        } => operands(test.get()).max(operands(body.get())).max(1),
     }
 }
 
