@@ -7,11 +7,12 @@ use Rattle.class_file.specs.Machine as machine
 use Rattle.class_file.specs.Runs.{Begins-same}
 use Rattle.class_machine.specs.declared.machine.RunEnd.{RunEnd}
 use Rattle.class_machine.specs.declared.machine.RunEnd.TheVariants as run_end
-use Rattle.class_machine.specs.declared.steps.StepEnd.TheVariants as went
+use Rattle.class_machine.specs.declared.run.StepEnd.TheVariants as went
 use Rattle.class_machine.specs.Core.{Core, state_of, IsSafe}
-use Rattle.class_machine.specs.Runs.{Wrote, Cut, Comes, class_name}
+use Rattle.class_machine.specs.Lot.{class_name}
+use Rattle.class_machine.specs.Runs.{Wrote, Cut, Comes}
 use Rattle.class_machine.specs.Seen.{RunsTo}
-use Rattle.class_machine.proofs.Running.{still_safe}
+use Rattle.class_machine.proofs.Sequences.{still_safe}
 
 -- after all its steps the machine is safe as before
 pub safe_on : (set : Set) (start now : Core) (n : ℕ) (t u : Option (List ℕ)) → IsSafe set start → Wrote t u (λ said. (input earlier : List ℕ) → Comes set (on_from set n (Going (state_of set start input earlier))) went.On now input (earlier ++ said)) → IsSafe set now

@@ -1,9 +1,10 @@
 -- What changes in a machine, but for its input and what it wrote.
-use Rattle.std.specs.Prelude.{◌≢◌, ℕ, List, [], ◌∷◌, Bool, false, length, replicate, Option, Some, None}
+use Rattle.std.specs.Prelude.{◌≢◌, ℕ, List, [], Bool, false, length, map, replicate, reverse}
 use Rattle.class_file.specs.declared.class.Set.{Set}
 use Rattle.class_file.specs.Natives.{Object}
 use Rattle.class_file.specs.Machine.{State, Active, Going, Over, Stuck, step, on_from, first_heap, first_statics}
-use Rattle.class_machine.specs.declared.steps.Run.{Run}
+use Rattle.class_machine.specs.declared.frame.Frame.{Frame}
+use Rattle.class_machine.specs.declared.run.Run.{Run}
 use Rattle.class_machine.specs.Heaps.{objects_of}
 use Rattle.class_machine.specs.Stacks.{shown}
 
@@ -35,10 +36,9 @@ pub record CanStep (set : Set) (core : Core) : Type 0 where
   pub earlier : List ℕ
   pub goes : (out : List ℕ) → step set (state_of set core input earlier) ≢ Over Stuck out
 
--- main's frame runs
-abbrev pub core_of : Run → Core
-core_of r = record { frames = shown r.frame ∷ []; heap = objects_of r.heap.items; started = r.started.items }
+-- the frames, the running one first
+abbrev pub frames_of : List Frame → List Active
+frames_of frames = map shown (reverse frames)
 
-abbrev pub core_at : Set → Option Run → Core
-core_at set (Some r) = core_of r
-core_at set None = first_core set
+abbrev pub core_of : Run → Core
+core_of r = record { frames = frames_of r.frames.items; heap = objects_of r.heap.items; started = r.started.items }

@@ -1,8 +1,10 @@
 pub mod Faults
 pub mod Stacks
 pub mod Heaps
+pub mod Lot
 pub mod Links
 pub mod Core
 pub mod Runs
+pub mod Throws
 pub mod Seen
 pub mod Laws

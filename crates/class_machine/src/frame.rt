@@ -1,4 +1,4 @@
-// A method that runs.
+// A method that runs or waits.
 
 ghost use Rattle.std.specs.Prelude.{◌≡◌, ◌∷◌, ◌<◌, length, reverse, OnOk};
 ghost use Rattle.class_file.specs.declared.value.Value.TheVariants as value;
@@ -7,7 +7,8 @@ ghost use Rattle.class_machine.specs.Stacks.{HasInt, HasLong};
 use class_file::value::Value;
 use std::alloc::AllocError;
 
-/// A method that runs: its place, and its local variables and its operand stack, the top last.
+/// A method that runs or waits: its place, also while it waits for a call, and its local variables and its operand stack, the top
+/// last. `starts` says that it initialises its class.
 #[derive(Drop)]
 pub struct Frame {
     pub class: usize,
@@ -15,6 +16,7 @@ pub struct Frame {
     pub at: usize,
     pub locals: Vec<Value>,
     pub stack: Vec<Value>,
+    pub starts: bool,
 }
 
 #[inline(always)]

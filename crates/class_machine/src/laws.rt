@@ -1,6 +1,7 @@
 //! Laws of the definition's runs.
 
 ghost use Rattle.class_machine.specs.Laws.{RunsAdd, OutputGrows, OverStays};
+ghost use Rattle.class_machine.specs.Lot.{FirstLotIsBuilt};
 
 /// A run of some steps and then of more is one run.
 pub fn runs_add()
@@ -11,4 +12,9 @@ pub fn runs_add()
 pub fn output_grows()
     ensures grows { OutputGrows }
     ensures over { OverStays }
+{}
+
+/// The machine is built for each set of the first lot.
+pub fn first_lot_is_built()
+    ensures { FirstLotIsBuilt }
 {}

@@ -1,9 +1,10 @@
 //! A machine that runs class files: code linked by byte offset, steps, and runs over a source and a sink.
 #![tactic(auto)]
 
-mod begin;
+mod calls;
 mod faults;
 mod frame;
+mod frames;
 mod heap;
 mod laws;
 mod linking;
@@ -11,7 +12,9 @@ mod links;
 mod machine;
 mod natives;
 mod rows;
+mod run;
 mod steps;
+mod throws;
 
-pub use laws::{output_grows, runs_add};
+pub use laws::{first_lot_is_built, output_grows, runs_add};
 pub use machine::{Machine, RunEnd};

@@ -1,19 +1,47 @@
 // Names resolved and code spread out by byte offset, once.
 
-ghost use Rattle.std.specs.Prelude.{◌≡◌, ◌<◌, ◌^◌, ◌++◌, nat_eq, length, map, OnOk, IfOk, Some, false, replicate, All};
+ghost use Rattle.std.specs.Prelude.{◌≡◌, ◌<◌, ◌^◌, ◌++◌, ◌==◌, nat_eq, length, map, position, OnOk, IfOk, Some, false, replicate, All, codes};
 ghost use Rattle.std.specs.Cmp.Lexicographic.{pointwise};
 ghost use Rattle.std.specs.Option.{option_copied};
 ghost use Rattle.class_file.specs.Pools.{entry_at, text_in, name_in, typed_in, named, is_member};
-ghost use Rattle.class_machine.specs.Links.{IsLinked, native_named, native_in, meaning_of, meaning_in, ops_of, parts, parts_of};
+ghost use Rattle.class_file.specs.Classes.{class_named};
+ghost use Rattle.class_file.specs.Lots.{static_named};
+ghost use Rattle.class_machine.specs.Links.{IsLinked, LinksMethod, native_named, native_in, count_of, own_named, own_in, main_target, plain_target, exception_named, caught_in, linked_handler, meaning_of, meaning_in, method_parts, method_parts_of, ops_of, parts, parts_of, all_parts};
 
-use crate::links::{Link, LinkedClass, LinkedMethod, Links, Op};
-use class_file::class::{ClassFile, Method, Set};
+use crate::links::{Caught, Link, LinkedClass, LinkedHandler, LinkedMethod, Links, Op, Target};
+use class_file::class::{ClassFile, Handler, Method, Set};
 use class_file::instr::Instr;
 use class_file::pool::{Entry, Pool};
 use class_file::table::{length_of, row_of};
 use class_file::value::NativeId;
 use kc_text::{Memory, Text};
 use std::alloc::Global;
+use verifier_types::described;
+
+// The number of the first class of exceptions, which is Throwable.
+const FIRST_EXCEPTION: usize = 7;
+
+// The classes of exceptions that the run-time system provides, in the order of their numbers.
+static EXCEPTIONS: [&str; 18] = [
+    "java/lang/Throwable",
+    "java/lang/Exception",
+    "java/lang/Error",
+    "java/lang/RuntimeException",
+    "java/lang/IllegalArgumentException",
+    "java/lang/NumberFormatException",
+    "java/lang/IllegalStateException",
+    "java/lang/UnsupportedOperationException",
+    "java/lang/ArithmeticException",
+    "java/lang/NullPointerException",
+    "java/lang/ClassCastException",
+    "java/lang/IndexOutOfBoundsException",
+    "java/lang/ArrayIndexOutOfBoundsException",
+    "java/lang/ArrayStoreException",
+    "java/lang/NegativeArraySizeException",
+    "java/lang/IncompatibleClassChangeError",
+    "java/lang/AbstractMethodError",
+    "java/util/NoSuchElementException",
+];
 
 // An instruction's entry stands at each of its bytes.
 fn put(ops: &mut Vec<Op>, op: Op, times: usize) -> Result<(), Memory>
@@ -42,14 +70,81 @@ fn ops_of(alloc: Global, code: &[Instr]) -> Result<Vec<Op>, Memory>
     Ok(ops)
 }
 
-fn link_methods(alloc: Global, methods: &[Method]) -> Result<Vec<LinkedMethod>, Memory>
+// The place of a name among names.
+fn place_of(name: &Text, names: &[&str]) -> Option<usize>
+    ensures { result ≡ position (λ known. pointwise nat_eq name.now known.now) names.now }
+{
+    names
+        .iter()
+        .position(|known| is_text(name, known.as_bytes()))
+}
+
+// The number of the class of exceptions of this name.
+fn exception_named(name: &Text) -> Option<usize>
+    ensures { result ≡ exception_named name.now }
+{
+    match place_of(name, &EXCEPTIONS) {
+        Some(place) => Some(FIRST_EXCEPTION + place),
+        None => None,
+    }
+}
+
+fn caught(pool: &Pool, catch_type: u16) -> Caught
+    ensures { result ≡ caught_in (catch_type == 0) (name_in pool.now (entry_at pool.now catch_type)) }
+{
+    if catch_type == 0 {
+        return Caught::All;
+    }
+    match name_at(pool, catch_type) {
+        Some(name) => match exception_named(name) {
+            Some(number) => Caught::Class(number),
+            None => Caught::Nothing,
+        },
+        None => Caught::Nothing,
+    }
+}
+
+fn link_handler(pool: &Pool, handler: &Handler) -> LinkedHandler
+    ensures { result ≡ linked_handler pool.now handler.now }
+{
+    LinkedHandler {
+        start: handler.start,
+        end: handler.end,
+        at: handler.at,
+        caught: caught(pool, handler.catch_type),
+    }
+}
+
+fn link_handlers(
+    alloc: Global,
+    pool: &Pool,
+    handlers: &[Handler],
+) -> Result<Vec<LinkedHandler>, Memory>
+    ensures { IfOk result (λ linked. linked.items ≡ map (linked_handler pool.now) handlers.now) }
+{
+    let mut linked = Vec::new(alloc);
+    for handler in handlers {
+        linked.push(link_handler(pool, handler))?;
+    }
+    Ok(linked)
+}
+
+fn link_method(alloc: Global, pool: &Pool, method: &Method) -> Result<LinkedMethod, Memory>
+    requires { length method.now.code < 2 ^ 28 }
+    ensures { IfOk result (λ linked. method_parts linked ≡ method_parts_of pool.now method.now) }
+{
+    let ops = ops_of(alloc, method.code.as_slice())?;
+    let handlers = link_handlers(alloc, pool, method.handlers.as_slice())?;
+    Ok(LinkedMethod { ops, handlers })
+}
+
+fn link_methods(alloc: Global, pool: &Pool, methods: &[Method]) -> Result<Vec<LinkedMethod>, Memory>
     requires { All (λ m. length m.code < 2 ^ 28) methods.now }
-    ensures { IfOk result (λ linked. map (λ m. m.ops.items) linked.items ≡ map (λ m. ops_of 0 m.code) methods.now) }
+    ensures { IfOk result (λ linked. map method_parts linked.items ≡ map (method_parts_of pool.now) methods.now) }
 {
     let mut linked = Vec::new(alloc);
     for method in methods {
-        let ops = ops_of(alloc, method.code.as_slice())?;
-        linked.push(LinkedMethod { ops })?;
+        linked.push(link_method(alloc, pool, method)?)?;
     }
     Ok(linked)
 }
@@ -185,9 +280,124 @@ fn native_at(pool: &Pool, owner: u16, member: u16) -> Option<NativeId>
     }
 }
 
+fn class_named(name: &Text, classes: &[ClassFile]) -> Option<usize>
+    ensures { result ≡ class_named name.now classes.now }
+{
+    classes.iter().position(|class| class.this_name == *name)
+}
+
+// The first static method of this name and descriptor.
+fn static_named(name: &Text, descriptor: &Text, methods: &[Method]) -> Option<usize>
+    ensures { result ≡ static_named name.now descriptor.now methods.now }
+{
+    methods.iter().position(|method| method.flags & 0x0008 != 0
+        && (method.name == *name && method.descriptor == *descriptor))
+}
+
+fn plain_static_named(name: &[u8], methods: &[Method]) -> Option<usize>
+    ensures { result ≡ static_named name.now (codes "()V") methods.now }
+{
+    methods.iter().position(|method| method.flags & 0x0008 != 0
+        && (is_text(&method.name, name) && is_text(&method.descriptor, b"()V")))
+}
+
+// A static method without parameters and result.
+fn plain_target(class: usize, name: &[u8], methods: &[Method]) -> Option<Target>
+    ensures { result ≡ plain_target class name.now methods.now }
+{
+    let method = plain_static_named(name, methods)?;
+    Some(Target {
+        class,
+        method,
+        params: 0,
+        max_locals: methods[method].max_locals,
+    })
+}
+
+// How many values a method of this descriptor takes.
+fn count_of(alloc: Global, descriptor: &Text) -> Result<usize, Memory>
+    ensures { IfOk result (λ count. count ≡ count_of descriptor.now) }
+{
+    let call = described(alloc, descriptor)?;
+    Ok(call.params.len())
+}
+
+// A method of the set that the class which is named has itself.
+fn own_named(
+    alloc: Global,
+    classes: &[ClassFile],
+    owner: &Text,
+    name: &Text,
+    descriptor: &Text,
+) -> Result<Option<Target>, Memory>
+    ensures { IfOk result (λ target. target ≡ own_named classes.now (record { owner = owner.now; name = name.now; descriptor = descriptor.now })) }
+{
+    let Some(class) = class_named(owner, classes) else {
+        return Ok(None);
+    };
+    let methods = classes[class].methods.as_slice();
+    let Some(method) = static_named(name, descriptor, methods) else {
+        return Ok(None);
+    };
+    let params = count_of(alloc, descriptor)?;
+    Ok(Some(Target {
+        class,
+        method,
+        params,
+        max_locals: methods[method].max_locals,
+    }))
+}
+
+// The method of the set that a Methodref entry names.
+fn own_at(
+    alloc: Global,
+    classes: &[ClassFile],
+    pool: &Pool,
+    owner: u16,
+    member: u16,
+) -> Result<Option<Target>, Memory>
+    ensures { IfOk result (λ target. target ≡ own_in classes.now (named false (typed_in pool.now (name_in pool.now (entry_at pool.now owner)) (entry_at pool.now member)))) }
+{
+    let owner = name_at(pool, owner);
+    match pool.get(member as usize) {
+        Some(Entry::NameAndType(name, descriptor)) => {
+            let Some(owner) = owner else {
+                return Ok(None);
+            };
+            let Some(name) = text_at(pool, *name) else {
+                return Ok(None);
+            };
+            let Some(descriptor) = text_at(pool, *descriptor) else {
+                return Ok(None);
+            };
+            own_named(alloc, classes, owner, name, descriptor)
+        }
+        _ => Ok(None),
+    }
+}
+
+// The method that a Methodref entry names.
+fn method_link(
+    alloc: Global,
+    classes: &[ClassFile],
+    pool: &Pool,
+    owner: u16,
+    member: u16,
+) -> Result<Link, Memory>
+    ensures { IfOk result (λ link. LinksMethod link classes.now (named false (typed_in pool.now (name_in pool.now (entry_at pool.now owner)) (entry_at pool.now member)))) }
+{
+    if let Some(id) = native_at(pool, owner, member) {
+        return Ok(Link::Native(id));
+    }
+    match own_at(alloc, classes, pool, owner, member)? {
+        Some(target) => Ok(Link::Method(target)),
+        None => Ok(Link::Missing),
+    }
+}
+
 // What an index stands for where code names it.
-fn link_of(alloc: Global, pool: &Pool, index: usize) -> Result<Link, Memory>
-    ensures { IfOk result (λ link. meaning_of link ≡ meaning_in pool.now (entry_at pool.now index)) }
+fn link_of(alloc: Global, classes: &[ClassFile], pool: &Pool, index: usize) -> Result<Link, Memory>
+    ensures { IfOk result (λ link. meaning_of link ≡ meaning_in classes.now pool.now (entry_at pool.now index)) }
 {
     match pool.get(index) {
         Some(Entry::Integer(number)) => Ok(Link::Number(*number)),
@@ -196,10 +406,7 @@ fn link_of(alloc: Global, pool: &Pool, index: usize) -> Result<Link, Memory>
             Some(text) => Ok(Link::Literal(text.copy(alloc)?)),
             None => Ok(Link::Missing),
         },
-        Some(Entry::MethodRef(owner, member)) => match native_at(pool, *owner, *member) {
-            Some(id) => Ok(Link::Native(id)),
-            None => Ok(Link::Missing),
-        },
+        Some(Entry::MethodRef(owner, member)) => method_link(alloc, classes, pool, *owner, *member),
         Some(Entry::Utf8(_))
         | Some(Entry::Class(_))
         | Some(Entry::FieldRef(_, _))
@@ -209,34 +416,53 @@ fn link_of(alloc: Global, pool: &Pool, index: usize) -> Result<Link, Memory>
     }
 }
 
-fn link_constants(alloc: Global, pool: &Pool) -> Result<Vec<Link>, Memory>
-    ensures { IfOk result (λ constants. map meaning_of constants.items ≡ map (meaning_in pool.now) pool.now) }
+fn link_constants(alloc: Global, classes: &[ClassFile], pool: &Pool) -> Result<Vec<Link>, Memory>
+    ensures { IfOk result (λ constants. map meaning_of constants.items ≡ map (meaning_in classes.now pool.now) pool.now) }
 {
     let mut constants = Vec::new(alloc);
     for index in 0..pool.count() {
-        constants.push(link_of(alloc, pool, index)?)?;
+        constants.push(link_of(alloc, classes, pool, index)?)?;
     }
     Ok(constants)
 }
 
-fn link_class(alloc: Global, class: &ClassFile) -> Result<LinkedClass, Memory>
+fn link_class(
+    alloc: Global,
+    classes: &[ClassFile],
+    place: usize,
+    class: &ClassFile,
+) -> Result<LinkedClass, Memory>
     requires { All (λ m. length m.code < 2 ^ 28) class.now.methods }
-    ensures { IfOk result (λ linked. parts linked ≡ parts_of class.now) }
+    ensures { IfOk result (λ linked. parts linked ≡ parts_of classes.now place class.now) }
 {
-    let methods = link_methods(alloc, class.methods.as_slice())?;
-    let constants = link_constants(alloc, &class.pool)?;
-    Ok(LinkedClass { methods, constants })
+    let methods = link_methods(alloc, &class.pool, class.methods.as_slice())?;
+    let constants = link_constants(alloc, classes, &class.pool)?;
+    let initialiser = plain_target(place, b"<clinit>", class.methods.as_slice());
+    Ok(LinkedClass {
+        methods,
+        constants,
+        initialiser,
+    })
 }
 
 fn link_classes(alloc: Global, classes: &[ClassFile]) -> Result<Vec<LinkedClass>, Memory>
     requires { All (λ c. All (λ m. length m.code < 2 ^ 28) c.methods) classes.now }
-    ensures { IfOk result (λ linked. map parts linked.items ≡ map parts_of classes.now) }
+    ensures { IfOk result (λ linked. map parts linked.items ≡ all_parts classes.now 0 classes.now) }
 {
     let mut linked = Vec::new(alloc);
     for class in classes {
-        linked.push(link_class(alloc, class)?)?;
+        let place = linked.len();
+        linked.push(link_class(alloc, classes, place, class)?)?;
     }
     Ok(linked)
+}
+
+fn main_target(set: &Set) -> Option<Target>
+    ensures { result ≡ main_target set.now }
+{
+    let classes = set.classes.as_slice();
+    let class = class_named(&set.main, classes)?;
+    plain_target(class, b"main", classes[class].methods.as_slice())
 }
 
 /// The links of a set.
@@ -245,5 +471,6 @@ pub fn link(alloc: Global, set: &Set) -> Result<Links, Memory>
     ensures { IfOk result (λ links. IsLinked set.now links) }
 {
     let classes = link_classes(alloc, set.classes.as_slice())?;
-    Ok(Links { classes })
+    let main = main_target(set);
+    Ok(Links { classes, main })
 }

@@ -1,26 +1,29 @@
 //! The machine as its callers see it.
 
-ghost use Rattle.std.specs.Prelude.{◌≡◌, ◌<◌, ◌≤◌, ◌^◌, ◌++◌, ℕ, List, true, length, All, IfOk, OnErr};
-ghost use Rattle.class_file.specs.Lots.{IsFirstLot};
-ghost use Rattle.class_file.specs.Machine.{on_from, step, Going, message};
+ghost use Rattle.std.specs.Prelude.{◌≡◌, ◌<◌, ◌≤◌, ◌^◌, [], true, false, length, replicate, All, IfOk};
+ghost use Rattle.class_file.specs.Machine.{on_from, Going, message, first_heap};
 ghost use Rattle.class_machine.specs.declared.machine.RunEnd.TheVariants as run_end;
-ghost use Rattle.class_machine.specs.Core.{state_of, core_of, core_at, first_core, NeverStuck, IsSafe, CanStep};
-ghost use Rattle.class_machine.specs.Faults.{HasCause};
-ghost use Rattle.class_machine.specs.Links.{IsLinked};
-ghost use Rattle.class_machine.specs.Runs.{Wrote, Cut, Comes, class_name};
+ghost use Rattle.class_machine.specs.Core.{state_of, core_of, first_core, NeverStuck};
+ghost use Rattle.class_machine.specs.Heaps.{objects_of};
+ghost use Rattle.class_machine.specs.Lot.{IsBuilt, class_name};
 ghost use Rattle.class_machine.specs.Seen.{RunsTo, IsCausedBy, is_step_limit};
 
-use crate::begin::begin;
 use crate::faults::Fault;
+use crate::heap::Object;
 use crate::linking::link;
 use crate::links::Links;
-use crate::steps::{Run, StepEnd, run_on};
+use crate::run::{Run, StepEnd};
+use crate::steps::run_on;
+use crate::throws::{class_name, message};
 use class_file::class::Set;
 use class_file::value::BuiltIn;
 use kc_io::{Sink, Source};
 use kc_text::{Memory, Text};
 use std::alloc::Global;
 use std::marker::Model;
+
+// The number of the class of Unit.
+const UNIT_CLASS: usize = 27;
 
 /// How a run ended.
 #[derive(Drop)]
@@ -44,8 +47,7 @@ pub enum RunEnd {
 pub struct Machine<'a> {
     set: &'a Set,
     links: Links,
-    // The run of main, once it is called.
-    run: Option<Run>,
+    run: Run,
     live: bool,
 }
 
@@ -55,28 +57,29 @@ impl<'a> Model for Machine<'a> {
 
     ghost Value = { Seen };
 
-    ghost use Rattle.class_machine.specs.Core.{core_at, IsSafe};
+    ghost use Rattle.class_machine.specs.Core.{core_of, IsSafe};
     ghost use Rattle.class_machine.specs.Links.{IsLinked};
-    ghost use Rattle.class_file.specs.Lots.{IsFirstLot};
+    ghost use Rattle.class_machine.specs.Lot.{IsBuilt};
 
-    ghost view = { λ m. record { set = m.set.now; core = core_at m.set.now m.run; live = m.live } };
+    ghost view = { λ m. record { set = m.set.now; core = core_of m.run; live = m.live } };
 
-    ghost invariant = { λ m. IsLinked m.set.now m.links × IsFirstLot m.set.now × (m.live ≡ true → IsSafe m.set.now (core_at m.set.now m.run)) };
+    ghost invariant = { λ m. IsLinked m.set.now m.links × IsBuilt m.set.now × (m.live ≡ true → IsSafe m.set.now (core_of m.run)) };
 }
 
 impl<'a> Machine<'a> {
     /// The machine before its first step. It links the set's code and names once.
     pub fn start(alloc: Global, set: &'a Set) -> Result<Machine<'a>, Memory>
         requires codes { All (λ c. All (λ m. length m.code < 2 ^ 28) c.methods) set.now.classes }
-        requires lot { IsFirstLot set.now }
+        requires built { IsBuilt set.now }
         requires never { NeverStuck set.now (first_core set.now) }
         ensures { IfOk result (λ m. (m.set ≡ set.now) × (m.core ≡ first_core set.now) × (m.live ≡ true)) }
     {
         let links = link(alloc, set)?;
+        let run = first_run(alloc, set.classes.len())?;
         Ok(Machine {
             set,
             links,
-            run: None,
+            run,
             live: true,
         })
     }
@@ -105,7 +108,7 @@ impl<'a> Machine<'a> {
         ensures faults { O.faults out.old ≤ O.faults out.new }
     {
         self.live = false;
-        match advance(alloc, self.set, &self.links, steps, &mut self.run, out) {
+        match run_on(alloc, self.set, &self.links, steps, &mut self.run, out) {
             Ok(StepEnd::On) => {
                 self.live = true;
                 RunEnd::StepLimit
@@ -121,57 +124,6 @@ impl<'a> Machine<'a> {
     }
 }
 
-// The binary name of the class of an exception.
-fn class_name(exception: BuiltIn) -> &'static str
-    ensures { result.now ≡ class_name exception }
-{
-    match exception {
-        BuiltIn::Throwable => "java/lang/Throwable",
-        BuiltIn::Exception => "java/lang/Exception",
-        BuiltIn::Error => "java/lang/Error",
-        BuiltIn::RuntimeException => "java/lang/RuntimeException",
-        BuiltIn::IllegalArgumentException => "java/lang/IllegalArgumentException",
-        BuiltIn::NumberFormatException => "java/lang/NumberFormatException",
-        BuiltIn::IllegalStateException => "java/lang/IllegalStateException",
-        BuiltIn::UnsupportedOperationException => "java/lang/UnsupportedOperationException",
-        BuiltIn::ArithmeticException => "java/lang/ArithmeticException",
-        BuiltIn::NullPointerException => "java/lang/NullPointerException",
-        BuiltIn::ClassCastException => "java/lang/ClassCastException",
-        BuiltIn::IndexOutOfBoundsException => "java/lang/IndexOutOfBoundsException",
-        BuiltIn::ArrayIndexOutOfBoundsException => "java/lang/ArrayIndexOutOfBoundsException",
-        BuiltIn::ArrayStoreException => "java/lang/ArrayStoreException",
-        BuiltIn::NegativeArraySizeException => "java/lang/NegativeArraySizeException",
-        BuiltIn::IncompatibleClassChangeError => "java/lang/IncompatibleClassChangeError",
-        BuiltIn::AbstractMethodError => "java/lang/AbstractMethodError",
-        BuiltIn::NoSuchElementException => "java/util/NoSuchElementException",
-    }
-}
-
-fn message(alloc: Global, exception: BuiltIn) -> Result<Option<Text>, Memory>
-    ensures { IfOk result (λ text. text ≡ message exception) }
-{
-    match exception {
-        BuiltIn::ArithmeticException => Ok(Some(Text::from_str(alloc, "/ by zero")?)),
-        BuiltIn::Throwable
-        | BuiltIn::Exception
-        | BuiltIn::Error
-        | BuiltIn::RuntimeException
-        | BuiltIn::IllegalArgumentException
-        | BuiltIn::NumberFormatException
-        | BuiltIn::IllegalStateException
-        | BuiltIn::UnsupportedOperationException
-        | BuiltIn::NullPointerException
-        | BuiltIn::ClassCastException
-        | BuiltIn::IndexOutOfBoundsException
-        | BuiltIn::ArrayIndexOutOfBoundsException
-        | BuiltIn::ArrayStoreException
-        | BuiltIn::NegativeArraySizeException
-        | BuiltIn::IncompatibleClassChangeError
-        | BuiltIn::AbstractMethodError
-        | BuiltIn::NoSuchElementException => Ok(None),
-    }
-}
-
 // An exception that left main.
 fn threw(alloc: Global, exception: BuiltIn) -> Result<RunEnd, Memory>
     ensures { IfOk result (λ end. end ≡ run_end.Threw (class_name exception) (message exception)) }
@@ -182,32 +134,38 @@ fn threw(alloc: Global, exception: BuiltIn) -> Result<RunEnd, Memory>
     })
 }
 
-// At most so many steps, the first of which may be the call of main.
-fn advance<O: Sink>(
-    alloc: Global,
-    set: &Set,
-    links: &Links,
-    steps: u64,
-    run: &mut Option<Run>,
-    out: &mut O,
-) -> Result<StepEnd, Fault>
-    requires linked { IsLinked set.now links.now }
-    requires lot { IsFirstLot set.now }
-    requires safe { IsSafe set.now (core_at set.now run.old) }
-    ensures ok { IfOk result (λ end. Wrote (O.taken out.old) (O.taken out.new) (λ said. (input earlier : List ℕ) →
-        Comes set.now (on_from set.now steps (Going (state_of set.now (core_at set.now run.old) input earlier))) end (core_at set.now run.new) input (earlier ++ said))) }
-    ensures err { OnErr result (Cut (O.taken out.old) (O.taken out.new) (λ input earlier. on_from set.now steps (Going (state_of set.now (core_at set.now run.old) input earlier)))) }
-    ensures cause { HasCause (O.faults out.old) (O.faults out.new) result }
-    ensures faults { O.faults out.old ≤ O.faults out.new }
+// The one object that there is before any other: that of Unit.
+fn first_heap(alloc: Global) -> Result<Vec<Object>, Memory>
+    ensures { IfOk result (λ heap. objects_of heap.items ≡ first_heap) }
 {
-    if let Some(running) = run {
-        return run_on(alloc, set, links, steps, running, out);
+    let mut heap = Vec::new(alloc);
+    heap.push(Object::Instance {
+        class: UNIT_CLASS,
+        fields: Vec::new(alloc),
+    })?;
+    Ok(heap)
+}
+
+// No class is started.
+fn none_started(alloc: Global, count: usize) -> Result<Vec<bool>, Memory>
+    ensures { IfOk result (λ started. started.items ≡ replicate count false) }
+{
+    let mut started = Vec::new(alloc);
+    for _ in 0..count {
+        started.push(false)?;
     }
-    if steps == 0 {
-        return Ok(StepEnd::On);
-    }
-    let mut running = begin(alloc, set)?;
-    let end = run_on(alloc, set, links, steps - 1, &mut running, out)?;
-    *run = Some(running);
-    Ok(end)
+    Ok(started)
+}
+
+// A run before main is called, over so many classes.
+fn first_run(alloc: Global, count: usize) -> Result<Run, Memory>
+    ensures frames { IfOk result (λ run. run.frames.items ≡ []) }
+    ensures heap { IfOk result (λ run. objects_of run.heap.items ≡ first_heap) }
+    ensures started { IfOk result (λ run. run.started.items ≡ replicate count false) }
+{
+    Ok(Run {
+        frames: Vec::new(alloc),
+        heap: first_heap(alloc)?,
+        started: none_started(alloc, count)?,
+    })
 }

@@ -1,54 +1,32 @@
 // Steps, and runs of steps.
 
-ghost use Rattle.std.specs.Prelude.{◌≡◌, ◌≢◌, ◌≤◌, ℕ, List, [], ◌∷◌, ◌++◌, reverse, OnOk, OnErr, IfOk, Some};
-ghost use Rattle.class_file.specs.declared.class.Set.{Set as SetValue};
-ghost use Rattle.class_file.specs.Pools.{Constant};
-ghost use Rattle.class_file.specs.Natives.{TextObject};
-ghost use Rattle.class_file.specs.Lots.{IsFirstLot};
-ghost use Rattle.class_file.specs.Machine.{Static, Going, Over, Stuck, invoked, loaded, made, resolve, step, on_from, branch, is_same};
-ghost use Rattle.class_machine.specs.Core.{state_of, core_of, CanStep, IsSafe};
+ghost use Rattle.std.specs.Prelude.{◌≡◌, ◌≢◌, ◌≤◌, ◌<◌, ℕ, List, ◌++◌, length, OnOk, OnErr, IfOk, Some};
+ghost use Rattle.class_file.specs.Natives.{NativeFails};
+ghost use Rattle.class_file.specs.Lots.{native_member};
+ghost use Rattle.class_file.specs.Machine.{Going, Invokes, LoadsConstant, LoadsLong, Static, step, on_from, branch, is_same};
+ghost use Rattle.class_machine.specs.Core.{state_of, core_of, frames_of, CanStep, IsSafe};
 ghost use Rattle.class_machine.specs.Faults.{HasCause};
-ghost use Rattle.class_machine.specs.Links.{IsLinked, HasOp, HasLink, HasConstant, HasNative, HasWide, op_at, link_at, native_at, constant_at, wide_at};
+ghost use Rattle.class_machine.specs.Links.{IsLinked, HasLink, HasWide, link_at, wide_at};
 ghost use Rattle.class_machine.specs.Heaps.{objects_of};
-ghost use Rattle.class_machine.specs.Runs.{Wrote, Cut, Comes, CanInvoke, IsNativeCall};
-ghost use Rattle.class_machine.specs.Stacks.{shown, LoadedWide, JumpedBy};
+ghost use Rattle.class_machine.specs.Lot.{IsBuilt};
+ghost use Rattle.class_machine.specs.Runs.{Wrote, Cut, Comes, IsGoing, MadeText, needing, TopNative, TopNativeCut, CanNative, RunsCall, RunsNative, RunsOwn};
+ghost use Rattle.class_machine.specs.Stacks.{TopJumped};
 
+use crate::calls::{begin, enter, hand_back, op_at, start_class};
 use crate::faults::Fault;
-use crate::frame::{Frame, push};
+use crate::frame::Frame;
+use crate::frames::{in_top, jump_top, push_top, running};
 use crate::heap::{Object, is_same};
-use crate::links::{Link, Links, Op};
+use crate::links::{Link, Links, Target};
 use crate::natives::{NativeDone, native};
-use crate::rows::{Went, branch, in_frame};
+use crate::rows::{Went, branch};
+use crate::run::{Run, StepEnd};
+use crate::throws::throw;
 use class_file::class::Set;
-use class_file::value::{BuiltIn, NativeId, Value};
+use class_file::value::{NativeId, Value};
 use kc_io::Sink;
 use kc_text::{Memory, Text};
 use std::alloc::Global;
-
-/// A run of main: its frame, the objects that were made, each under its number, and for each class of the set whether its
-/// initialisation has begun.
-#[derive(Drop)]
-pub struct Run {
-    pub frame: Frame,
-    pub heap: Vec<Object>,
-    pub started: Vec<bool>,
-}
-
-/// How a step ended.
-#[derive(Clone, Copy)]
-pub enum StepEnd {
-    On,
-    Ended,
-    Threw(BuiltIn),
-}
-
-#[inline(always)]
-fn op_at(links: &Links, class: usize, method: usize, at: usize) -> Op
-    requires { HasOp links.now class method at }
-    ensures { op_at links.now class method at ≡ Some result }
-{
-    links.classes[class].methods[method].ops[at]
-}
 
 #[inline(always)]
 fn link_at(links: &Links, class: usize, i: usize) -> &Link
@@ -58,52 +36,35 @@ fn link_at(links: &Links, class: usize, i: usize) -> &Link
     &links.classes[class].constants[i]
 }
 
-#[inline(always)]
-fn native_at(links: &Links, class: usize, i: usize) -> NativeId
-    requires { HasNative links.now class i }
-    ensures { native_at links.now class i ≡ Some result }
-{
-    match link_at(links, class, i) {
-        Link::Native(id) => *id,
-        Link::Missing | Link::Number(_) | Link::Wide(_) | Link::Literal(_) => unreachable!(),
-    }
-}
-
-#[inline(always)]
-fn wide_at(links: &Links, class: usize, i: usize) -> i64
-    requires { HasWide links.now class i }
-    ensures { wide_at links.now class i ≡ Some result }
-{
-    match link_at(links, class, i) {
-        Link::Wide(number) => *number,
-        Link::Missing | Link::Number(_) | Link::Literal(_) | Link::Native(_) => unreachable!(),
-    }
-}
-
 // A new object, whose number goes onto the stack.
 fn make(run: &mut Run, text: Text, next: usize) -> Result<(), Memory>
-    ensures { OnOk result ((set : SetValue) (input out : List ℕ) →
-        made (state_of set (core_of run.old) input out) (shown run.old.frame) [] next (TextObject text) (reverse run.old.frame.stack.items)
-        ≡ Going (state_of set (core_of run.new) input out)) }
+    requires { 0 < length run.old.frames.items }
+    ensures { OnOk result (MadeText text next (core_of run.old) (core_of run.new)) }
 {
-    push(&mut run.frame.stack, Value::Ref(run.heap.len()))?;
+    let place = run.heap.len();
+    push_top(&mut run.frames, Value::Ref(place), next)?;
     run.heap.push(Object::Text(text))?;
-    run.frame.at = next;
     Ok(())
 }
 
 // A constant goes onto the stack.
-fn load(alloc: Global, links: &Links, i: usize, next: usize, run: &mut Run) -> Result<(), Memory>
-    requires { HasConstant links.now run.old.frame.class i }
-    ensures { OnOk result ((set : SetValue) (constant : Constant) (input out : List ℕ) →
-        constant_at links.now run.old.frame.class i ≡ Some constant →
-        loaded (state_of set (core_of run.old) input out) (shown run.old.frame) [] next (Some constant)
-        ≡ Going (state_of set (core_of run.new) input out)) }
+fn load(
+    alloc: Global,
+    set: &Set,
+    links: &Links,
+    i: usize,
+    next: usize,
+    run: &mut Run,
+) -> Result<(), Memory>
+    requires linked { IsLinked set.now links.now }
+    requires can { IsGoing (needing set.now (core_of run.old) next (LoadsConstant i)) }
+    ensures { OnOk result ((input out : List ℕ) → needing set.now (core_of run.old) next (LoadsConstant i) input out ≡ Going (state_of set.now (core_of run.new) input out)) }
 {
-    match link_at(links, run.frame.class, i) {
+    let _set = set;
+    let class = running(&run.frames).class;
+    match link_at(links, class, i) {
         Link::Number(number) => {
-            push(&mut run.frame.stack, Value::Int(*number))?;
-            run.frame.at = next;
+            push_top(&mut run.frames, Value::Int(*number), next)?;
             Ok(())
         }
         Link::Literal(text) => {
@@ -111,38 +72,119 @@ fn load(alloc: Global, links: &Links, i: usize, next: usize, run: &mut Run) -> R
             make(run, copy, next)?;
             Ok(())
         }
-        Link::Missing | Link::Wide(_) | Link::Native(_) => unreachable!(),
+        Link::Missing | Link::Wide(_) | Link::Native(_) | Link::Method(_) => unreachable!(),
     }
 }
 
 // A Long of the pool goes onto the stack.
-fn load_wide(links: &Links, i: usize, next: usize, frame: &mut Frame) -> Result<(), Memory>
-    requires { HasWide links.now frame.old.class i }
-    ensures { OnOk result (LoadedWide (wide_at links.now frame.old.class i) next frame.old frame.new) }
+fn load_wide(set: &Set, links: &Links, i: usize, next: usize, run: &mut Run) -> Result<(), Memory>
+    requires linked { IsLinked set.now links.now }
+    requires can { IsGoing (needing set.now (core_of run.old) next (LoadsLong i)) }
+    ensures { OnOk result ((input out : List ℕ) → needing set.now (core_of run.old) next (LoadsLong i) input out ≡ Going (state_of set.now (core_of run.new) input out)) }
 {
-    let number = wide_at(links, frame.class, i);
-    push(&mut frame.stack, Value::Long(number))?;
-    frame.at = next;
-    Ok(())
+    let _set = set;
+    let class = running(&run.frames).class;
+    match link_at(links, class, i) {
+        Link::Wide(number) => {
+            push_top(&mut run.frames, Value::Long(*number), next)?;
+            Ok(())
+        }
+        _ => unreachable!(),
+    }
 }
 
 // A jump by whether two references are the same.
-fn compare(
-    heap: &[Object],
-    wanted: bool,
-    to: usize,
-    first: Value,
-    second: Value,
-    next: usize,
-    frame: &mut Frame,
-)
-    ensures { JumpedBy (branch wanted (is_same (objects_of heap.now) first second) to next) frame.old frame.new }
+fn compare(wanted: bool, to: usize, first: Value, second: Value, next: usize, run: &mut Run)
+    requires { 0 < length run.old.frames.items }
+    ensures jumped { TopJumped (branch wanted (is_same (objects_of run.old.heap.items) first second) to next) run.old.frames.items run.new.frames.items }
+    ensures heap { run.new.heap ≡ run.old.heap }
+    ensures started { run.new.started ≡ run.old.started }
 {
-    let same = is_same(heap, first, second);
-    frame.at = branch(wanted, same, to, next);
+    let same = is_same(&run.heap, first, second);
+    jump_top(&mut run.frames, branch(wanted, same, to, next));
+}
+
+// A native runs on the running frame's stack.
+fn native_top<O: Sink>(
+    alloc: Global,
+    set: &Set,
+    id: NativeId,
+    heap: &[Object],
+    frames: &mut Vec<Frame>,
+    out: &mut O,
+) -> Result<NativeDone, Fault>
+    requires built { native_member id ≢ None }
+    requires can { CanNative set.now id (objects_of heap.now) frames.old.items }
+    ensures ok { IfOk result (λ done. TopNative set.now id (objects_of heap.now) done frames.old.items frames.new.items (O.taken out.old) (O.taken out.new)) }
+    ensures err { OnErr result (TopNativeCut set.now id (objects_of heap.now) frames.old.items (O.taken out.old) (O.taken out.new)) }
+    ensures cause { HasCause (O.faults out.old) (O.faults out.new) result }
+    ensures faults { O.faults out.old ≤ O.faults out.new }
+{
+    let top = frames.len() - 1;
+    let done = native(alloc, set, id, heap, &mut frames[top].stack, out)?;
+    Ok(done)
 }
 
 // The call of a native.
+fn call_native<O: Sink>(
+    alloc: Global,
+    set: &Set,
+    links: &Links,
+    id: NativeId,
+    i: usize,
+    next: usize,
+    run: &mut Run,
+    out: &mut O,
+) -> Result<StepEnd, Fault>
+    requires linked { IsLinked set.now links.now }
+    requires built { IsBuilt set.now }
+    requires native { RunsNative set.now id i (frames_of run.old.frames.items) }
+    requires can { IsGoing (needing set.now (core_of run.old) next (Invokes Static i)) }
+    ensures ok { IfOk result (λ end. Wrote (O.taken out.old) (O.taken out.new) (λ said. (input earlier : List ℕ) →
+        Comes set.now (needing set.now (core_of run.old) next (Invokes Static i) input earlier) end (core_of run.new) input (earlier ++ said))) }
+    ensures err { OnErr result (Cut (O.taken out.old) (O.taken out.new) (needing set.now (core_of run.old) next (Invokes Static i))) }
+    ensures cause { HasCause (O.faults out.old) (O.faults out.new) result }
+    ensures faults { O.faults out.old ≤ O.faults out.new }
+{
+    let _i = i;
+    match native_top(alloc, set, id, &run.heap, &mut run.frames, out)? {
+        NativeDone::Made(text) => {
+            make(run, text, next)?;
+            Ok(StepEnd::On)
+        }
+        NativeDone::Wrote => {
+            jump_top(&mut run.frames, next);
+            Ok(StepEnd::On)
+        }
+        NativeDone::Threw(exception) => Ok(throw(alloc, set, links, exception, run)?),
+    }
+}
+
+// The call of a method of the set.
+fn call_own(
+    alloc: Global,
+    set: &Set,
+    links: &Links,
+    target: Target,
+    i: usize,
+    next: usize,
+    run: &mut Run,
+) -> Result<(), Memory>
+    requires linked { IsLinked set.now links.now }
+    requires own { RunsOwn set.now target i (frames_of run.old.frames.items) }
+    requires can { IsGoing (needing set.now (core_of run.old) next (Invokes Static i)) }
+    ensures { OnOk result ((input out : List ℕ) → needing set.now (core_of run.old) next (Invokes Static i) input out ≡ Going (state_of set.now (core_of run.new) input out)) }
+{
+    let _i = i;
+    let _next = next;
+    if start_class(alloc, set, links, target.class, run)? {
+        return Ok(());
+    }
+    enter(alloc, target, &mut run.frames)?;
+    Ok(())
+}
+
+// The call of a static method.
 fn invoke<O: Sink>(
     alloc: Global,
     set: &Set,
@@ -153,27 +195,23 @@ fn invoke<O: Sink>(
     out: &mut O,
 ) -> Result<StepEnd, Fault>
     requires linked { IsLinked set.now links.now }
-    requires lot { IsFirstLot set.now }
-    requires native { IsNativeCall set.now run.old.frame.class i }
-    requires can { CanInvoke set.now (core_of run.old) (shown run.old.frame) next i }
+    requires built { IsBuilt set.now }
+    requires call { RunsCall set.now i (frames_of run.old.frames.items) }
+    requires can { IsGoing (needing set.now (core_of run.old) next (Invokes Static i)) }
     ensures ok { IfOk result (λ end. Wrote (O.taken out.old) (O.taken out.new) (λ said. (input earlier : List ℕ) →
-        Comes set.now (invoked set.now (state_of set.now (core_of run.old) input earlier) (shown run.old.frame) [] next Static (resolve set.now Static run.old.frame.class i)) end (core_of run.new) input (earlier ++ said))) }
-    ensures err { OnErr result (Cut (O.taken out.old) (O.taken out.new) (λ input earlier.
-        invoked set.now (state_of set.now (core_of run.old) input earlier) (shown run.old.frame) [] next Static (resolve set.now Static run.old.frame.class i))) }
+        Comes set.now (needing set.now (core_of run.old) next (Invokes Static i) input earlier) end (core_of run.new) input (earlier ++ said))) }
+    ensures err { OnErr result (Cut (O.taken out.old) (O.taken out.new) (needing set.now (core_of run.old) next (Invokes Static i))) }
     ensures cause { HasCause (O.faults out.old) (O.faults out.new) result }
     ensures faults { O.faults out.old ≤ O.faults out.new }
 {
-    let id = native_at(links, run.frame.class, i);
-    match native(alloc, set, id, &run.heap, &mut run.frame.stack, out)? {
-        NativeDone::Made(text) => {
-            make(run, text, next)?;
+    let class = running(&run.frames).class;
+    match link_at(links, class, i) {
+        Link::Native(id) => Ok(call_native(alloc, set, links, *id, i, next, run, out)?),
+        Link::Method(target) => {
+            call_own(alloc, set, links, *target, i, next, run)?;
             Ok(StepEnd::On)
         }
-        NativeDone::Wrote => {
-            run.frame.at = next;
-            Ok(StepEnd::On)
-        }
-        NativeDone::Threw(exception) => Ok(StepEnd::Threw(exception)),
+        _ => unreachable!(),
     }
 }
 
@@ -187,7 +225,7 @@ pub fn step<O: Sink>(
     out: &mut O,
 ) -> Result<StepEnd, Fault>
     requires linked { IsLinked set.now links.now }
-    requires lot { IsFirstLot set.now }
+    requires built { IsBuilt set.now }
     requires can { CanStep set.now (core_of run.old) }
     ensures ok { IfOk result (λ end. Wrote (O.taken out.old) (O.taken out.new) (λ said. (input earlier : List ℕ) →
         Comes set.now (step set.now (state_of set.now (core_of run.old) input earlier)) end (core_of run.new) input (earlier ++ said))) }
@@ -195,33 +233,30 @@ pub fn step<O: Sink>(
     ensures cause { HasCause (O.faults out.old) (O.faults out.new) result }
     ensures faults { O.faults out.old ≤ O.faults out.new }
 {
-    let op = op_at(links, run.frame.class, run.frame.method, run.frame.at);
-    match in_frame(op.row, op.next, &mut run.frame)? {
+    if run.frames.is_empty() {
+        begin(alloc, set, links, run)?;
+        return Ok(StepEnd::On);
+    }
+    let frame = running(&run.frames);
+    let op = op_at(links, frame.class, frame.method, frame.at);
+    match in_top(op.row, op.next, &mut run.frames)? {
         Went::On => Ok(StepEnd::On),
-        Went::Threw(exception) => Ok(StepEnd::Threw(exception)),
+        Went::Threw(exception) => Ok(throw(alloc, set, links, exception, run)?),
         Went::Loads(i) => {
-            load(alloc, links, i, op.next, run)?;
+            load(alloc, set, links, i, op.next, run)?;
             Ok(StepEnd::On)
         }
         Went::LoadsWide(i) => {
-            load_wide(links, i, op.next, &mut run.frame)?;
+            load_wide(set, links, i, op.next, run)?;
             Ok(StepEnd::On)
         }
         Went::Compares(wanted, to, first, second) => {
-            compare(
-                &run.heap,
-                wanted,
-                to,
-                first,
-                second,
-                op.next,
-                &mut run.frame,
-            );
+            compare(wanted, to, first, second, op.next, run);
             Ok(StepEnd::On)
         }
         Went::Calls(i) => Ok(invoke(alloc, set, links, i, op.next, run, out)?),
-        Went::Returned => Ok(StepEnd::Ended),
-        Went::ReturnedValue(_value) => unreachable!(),
+        Went::Returned => Ok(hand_back(set, links, None, run)?),
+        Went::ReturnedValue(value) => Ok(hand_back(set, links, Some(value), run)?),
         Went::NotBuilt => unreachable!(),
     }
 }
@@ -236,7 +271,7 @@ pub fn run_on<O: Sink>(
     out: &mut O,
 ) -> Result<StepEnd, Fault>
     requires linked { IsLinked set.now links.now }
-    requires lot { IsFirstLot set.now }
+    requires built { IsBuilt set.now }
     requires safe { IsSafe set.now (core_of run.old) }
     ensures ok { IfOk result (λ end. Wrote (O.taken out.old) (O.taken out.new) (λ said. (input earlier : List ℕ) →
         Comes set.now (on_from set.now steps (Going (state_of set.now (core_of run.old) input earlier))) end (core_of run.new) input (earlier ++ said))) }

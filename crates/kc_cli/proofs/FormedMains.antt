@@ -14,7 +14,7 @@ use Rattle.kc_core.specs.declared.tree.UnaryOp.TheVariants as unary
 use Rattle.kc_core.specs.declared.tree.Native.TheVariants as native_is
 use Rattle.kc_core.specs.declared.tree.Program.{Program}
 use Rattle.kc_core.specs.Lists.{still_there}
-use Rattle.kc_core.specs.Formed.{Assigned, none_assigned, marked, last_type, HasText, Formed, FormedAll, NoMore, Next, FormedMain, MainFormed}
+use Rattle.kc_core.specs.Formed.{Assigned, none_assigned, marked, last_type, Formed, FormedAll, NoMore, Next, FormedMain, MainFormed}
 use Rattle.kc_core.specs.Formed as formed
 use Rattle.kc_cli.specs.declared.tokens.Place.{Place}
 use Rattle.kc_cli.specs.declared.surface.Sum.{Sum}
@@ -169,16 +169,13 @@ record StatementFormed (n : ℕ) (after : List Place) (a : Assigned) (e : Core) 
   typed : e.ty ≡ type_is.Unit
   below : AssignedBelow (length after) assigned
 
-has_text : (e : Core) → e.ty ≡ type_is.Int → HasText e.ty
-has_text e t = subst HasText (sym t) tt
-
 printing_formed : (file n : ℕ) (names : List Place) (p : Place) (v : Core) (a : Assigned) → AssignedBelow (length names) a → Formed (locals_of n) v a a → v.ty ≡ type_is.Int
     → StatementFormed n names a (printing file p v)
 printing_formed file n names p v a assigned f t = record {
   assigned = a;
   formed = formed.CallNative (printing file p v) native_is.ConsoleWrite (line file p v ∷ []) a a (outs-CallNative native_is.ConsoleWrite (line file p v ∷ [])) refl refl
       (Next (line file p v) [] a a a
-      (formed.Concat (line file p v) (v ∷ line_feed file p ∷ []) a a (outs-Concat (v ∷ line_feed file p ∷ [])) refl (has_text v t, (tt, tt))
+      (formed.Concat (line file p v) (v ∷ line_feed file p ∷ []) a a (outs-Concat (v ∷ line_feed file p ∷ [])) refl
       (Next v (line_feed file p ∷ []) a a a f
       (Next (line_feed file p) [] a a a (formed.StrLit (line_feed file p) (10 ∷ []) a (outs-StrLit (10 ∷ [])) refl) (NoMore a))))
       (NoMore a));

@@ -46,8 +46,8 @@ fn class_of(alloc: Global, name: Text, pool: Pool, method: Method) -> Result<Cla
 
 /// The class of this name, with the program's `main` as its one method, as a set of its own.
 ///
-/// It is `TooLarge` only where the code has more than 65,535 instructions, `main` more than 65,535 locals, or the class more
-/// than 65,534 constants.
+/// It is `TooLarge` only where the code has more than 65,535 instructions, `main` more than 65,535 locals, the class more
+/// than 65,534 constants, or a jump more than 32,767 bytes to pass.
 pub fn compile(alloc: Global, program: &Program, name: Text) -> Result<Set, Fail<TooLarge>>
     requires main { HasMain program.now }
     requires own { IsOwnName name }

@@ -12,7 +12,7 @@ use crate::compile::compile;
 use crate::form::read_form;
 use crate::{Code, Name, Report, class_name};
 use class_file::class::Set;
-use class_machine::{Machine, RunEnd};
+use class_machine::{Machine, RunEnd, first_lot_is_built};
 use kc_io::{Folder, FolderRead, Sink, Source};
 use kc_text::{Fail, Memory};
 use stack_code::method::{compiled_is_first_lot, files_have_own_names};
@@ -90,6 +90,7 @@ fn run_set<I: Source, O: Sink>(
     ensures input { input.new ≡ input.old }
     ensures faults { O.faults out.old ≤ O.faults out.new }
 {
+    first_lot_is_built();
     let mut machine = match Machine::start(alloc, set) {
         Ok(machine) => machine,
         Err(_) => return Report::Memory,

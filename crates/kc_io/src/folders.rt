@@ -8,9 +8,13 @@ use std::alloc::Global;
 /// What a read of a file answers.
 #[derive(Debug, Drop)]
 pub enum FolderRead {
+    /// All bytes of the file.
     Bytes(Vec<u8>),
+    /// There is no file of this name. The folder's count of faults stays.
     Missing,
+    /// The file could not be read. The folder's count of faults has risen.
     Failed,
+    /// There was not enough memory for the bytes.
     Memory,
 }
 

@@ -8,7 +8,9 @@ use std::alloc::Global;
 /// Why a write was not made.
 #[derive(Clone, Copy, Debug, PartialEq, Eq)]
 pub enum OutFault {
+    /// The bytes could not be written. The sink's count of faults has risen.
     Failed,
+    /// There was not enough memory.
     Memory,
 }
 

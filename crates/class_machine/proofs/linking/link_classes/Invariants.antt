@@ -1,7 +1,10 @@
-use Rattle.std.proofs.Common.{◌≡◌, take}
+use Rattle.std.proofs.Common.{◌≡◌, length, take}
 use Rattle.std.specs.Prelude.{map}
-use Rattle.class_machine.specs.Links.{parts, parts_of}
+use Rattle.class_machine.specs.Links.{parts, all_parts}
 use Rattle.class_machine.proofs.linking.link_classes.Given as goal
 
 abbrev pub invariant-loop-class : goal.invariant-loop-class
-invariant-loop-class l = map parts l.linked.items ≡ map parts_of (take l.class-index l.classes)
+invariant-loop-class l = record {
+  done : map parts l.linked.items ≡ all_parts l.classes 0 (take l.class-index l.classes);
+  count : length l.linked.items ≡ l.class-index;
+}

@@ -1,7 +1,7 @@
 use Rattle.std.proofs.Common.{◌≡◌, take}
 use Rattle.std.specs.Prelude.{map}
-use Rattle.class_machine.specs.Links.{ops_of}
+use Rattle.class_machine.specs.Links.{method_parts, method_parts_of}
 use Rattle.class_machine.proofs.linking.link_methods.Given as goal
 
 abbrev pub invariant-loop-method : goal.invariant-loop-method
-invariant-loop-method l = map (λ m. m.ops.items) l.linked.items ≡ map (λ m. ops_of 0 m.code) (take l.method-index l.methods)
+invariant-loop-method l = map method_parts l.linked.items ≡ map (method_parts_of l.pool) (take l.method-index l.methods)

@@ -1,69 +1,62 @@
-use Rattle.std.proofs.Common.{◌≡◌, ◌≢◌, ap, sym, subst, ◌∙◌, List}
-use Rattle.std.specs.Prelude.{reverse}
-use Rattle.class_file.specs.Natives.{NativeFails}
+use Rattle.std.proofs.Common.{◌<◌, refl, sym, subst, List, length}
+use Rattle.std.specs.Prelude.{map}
+use Rattle.class_file.specs.Machine.{Active, Invokes, Static}
+use Rattle.class_machine.specs.declared.frame.Frame.{Frame}
+use Rattle.class_machine.specs.declared.run.StepEnd.TheVariants as «end»
 use Rattle.class_machine.specs.Core.{core_of}
-use Rattle.class_machine.specs.Heaps.{objects_of}
-use Rattle.class_machine.specs.Runs.{Applied, applied, NativeCut}
-use Rattle.class_machine.specs.declared.heap.Object.{Object as Kept}
-use Rattle.class_machine.specs.declared.steps.StepEnd.TheVariants as «end»
-use Rattle.class_machine.proofs.Stepping.{has_native, is_built, native_goes, call_cut, call_grows, call_threw, call_made, call_wrote, call, cut_nothing, wrote_nothing, on_err}
+use Rattle.class_machine.specs.Lot.{IsCall}
+use Rattle.class_machine.specs.Stacks.{shown}
+use Rattle.class_machine.specs.Runs.{needing}
+use Rattle.class_machine.proofs.Calling.{no_frame}
+use Rattle.class_machine.proofs.Stepping.{on_err, cut_nothing, wrote_nothing, call_keeps, filled, running_shown, running_top, call_link, names_of, own_of, some_link}
 use Rattle.class_machine.proofs.steps.invoke.Goals as goal
 
-pub native_at-id-requires : goal.native_at-id-requires
-native_at-id-requires g c =
-    let h = has_native c.args.set.now c.args.links.now c.args.run.now c.args.next c.args.i c.requires.linked c.requires.lot c.requires.native c.requires.can in record { id = h.0; is = h.1 }
+pub running-requires : goal.running-requires
+running-requires g c =
+    subst (λ (fs : List Frame). 0 < length fs) (sym c.deref.ensures.value)
+    (filled c.args.run.now.frames.items (no_frame c.args.set.now (core_of c.args.run.now) c.args.next (Invokes Static c.args.i) c.requires.can))
 
-pub native-requires-clause-built : goal.native-requires-clause-built
-native-requires-clause-built g c =
-    is_built c.args.set.now c.args.links.now c.args.run.now c.args.next c.args.i c.requires.linked c.requires.lot c.requires.native c.requires.can c.native_at-id.result c.native_at-id.ensures
+pub link_at-requires : goal.link_at-requires
+link_at-requires g c =
+    let k = c.requires.call in
+    let call = subst (λ (a : Active). IsCall c.args.set.now a.class c.args.i) (sym (running_top c.args.run.now.frames.items c.deref.result.now c.running.result.now k.top k.below c.deref.ensures.value c.running.ensures k.is)) k.call in
+    let l = call_link c.args.set.now c.args.links.now c.requires.linked c.running.result.now.class c.args.i call in record { target = l.0; is = l.1 }
 
-pub native-requires-clause-fits : goal.native-requires-clause-fits
-native-requires-clause-fits g c =
-    let stack = reverse c.args.run.now.frame.stack.items in
-    let P : List Kept → Type 0 = λ heap. (applied c.args.set.now c.native_at-id.result (objects_of heap) stack).effect ≢ NativeFails in
-    subst P (sym c.deref.ensures.value) (native_goes c.args.set.now c.args.links.now c.args.run.now c.args.next c.args.i c.requires.linked c.requires.lot c.requires.native c.requires.can c.native_at-id.result c.native_at-id.ensures)
-
-pub returns-in_err-text-clause-err : goal.returns-in_err-text-clause-err
-returns-in_err-text-clause-err g c =
-    let stack = reverse c.args.run.now.frame.stack.items in
-    let P : List Kept → Type 0 = λ heap. NativeCut (applied c.args.set.now c.native_at-id.result (objects_of heap) stack).effect (g.O.Sink.taken c.args.out.now) (g.O.Sink.taken c.native.new.out) in
-    on_err _ _ (call_cut c.args.set.now c.args.links.now c.args.run.now c.args.next c.args.i c.requires.linked c.requires.lot c.requires.native c.requires.can c.native_at-id.result c.native_at-id.ensures _ _ (subst P c.deref.ensures.value c.in_err-text.ensures.err))
-
-pub returns-in_err-make-in-Made-clause-err : goal.returns-in_err-make-in-Made-clause-err
-returns-in_err-make-in-Made-clause-err g c =
-    let d = rw c.in-Made.is at c.in_ok-text.ensures.ok in
-    on_err _ _ (cut_nothing _ _ _ d.2 (call_grows c.args.set.now c.args.links.now c.args.run.now c.args.next c.args.i c.requires.linked c.requires.lot c.requires.native c.requires.can))
-
-pub returns-in_ok-make-in-Made-clause-ok : goal.returns-in_ok-make-in-Made-clause-ok
-returns-in_ok-make-in-Made-clause-ok g c =
-    let d = rw c.in-Made.is at c.in_ok-text.ensures.ok in
-    let stack = reverse c.args.run.now.frame.stack.items in
-    let same : applied c.args.set.now c.native_at-id.result (objects_of c.args.run.now.heap.items) stack ≡ applied c.args.set.now c.native_at-id.result (objects_of c.deref.result.now) stack =
-    ap (λ (heap : List Kept). applied c.args.set.now c.native_at-id.result (objects_of heap) stack) (sym c.deref.ensures.value) in
-    wrote_nothing c.args.set.now _ _ (call c.args.set.now c.args.links.now c.args.run.now c.args.next c.args.i c.requires.linked c.requires.lot c.requires.native c.requires.can) «end».On (core_of c.make.new.run) d.2 (λ input out.
-    call_made c.args.set.now c.args.links.now c.args.run.now c.args.next c.args.i c.requires.linked c.requires.lot c.requires.native c.requires.can c.native_at-id.result c.native_at-id.ensures c.in-Made.text (reverse c.native.new.stack.items)
-    (ap (λ (a : Applied). a.effect) same ∙ d.0) (ap (λ (a : Applied). a.rest) same ∙ d.1) input out
-    ∙ c.in_ok-make-in-Made.ensures c.args.set.now input out)
-
-pub returns-in-Wrote-clause-ok : goal.returns-in-Wrote-clause-ok
-returns-in-Wrote-clause-ok g c =
-    let d = rw c.in-Wrote.is at c.in_ok-text.ensures.ok in
-    let stack = reverse c.args.run.now.frame.stack.items in
-    let same : applied c.args.set.now c.native_at-id.result (objects_of c.args.run.now.heap.items) stack ≡ applied c.args.set.now c.native_at-id.result (objects_of c.deref.result.now) stack =
-    ap (λ (heap : List Kept). applied c.args.set.now c.native_at-id.result (objects_of heap) stack) (sym c.deref.ensures.value) in
+pub call_native-requires-clause-native : goal.call_native-requires-clause-native
+call_native-requires-clause-native g c =
+    let k = c.requires.call in
+    let call = subst (λ (a : Active). IsCall c.args.set.now a.class c.args.i) (sym (running_top c.args.run.now.frames.items c.deref.result.now c.running.result.now k.top k.below c.deref.ensures.value c.running.ensures k.is)) k.call in
     record {
-      said = d.0.bytes;
-      taken = d.0.taken;
-      so = λ input earlier.
-          call_wrote c.args.set.now c.args.links.now c.args.run.now c.args.next c.args.i c.requires.linked c.requires.lot c.requires.native c.requires.can c.native_at-id.result c.native_at-id.ensures d.0.bytes (reverse c.native.new.stack.items)
-          (ap (λ (a : Applied). a.effect) same ∙ d.0.is) (ap (λ (a : Applied). a.rest) same ∙ d.1) input earlier;
+      top = shown c.running.result.now;
+      below = map shown c.running.ensures.below;
+      is = running_shown c.args.run.now.frames.items c.deref.result.now c.running.result.now c.deref.ensures.value c.running.ensures;
+      names = names_of c.args.set.now c.args.links.now c.requires.linked c.running.result.now.class c.args.i c.link_at.result.now c.link_at.ensures c.in-Native.id c.in-Native.is call;
     }
 
-pub returns-in-Threw-clause-ok : goal.returns-in-Threw-clause-ok
-returns-in-Threw-clause-ok g c =
-    let d = rw c.in-Threw.is at c.in_ok-text.ensures.ok in
-    let stack = reverse c.args.run.now.frame.stack.items in
-    let same : applied c.args.set.now c.native_at-id.result (objects_of c.args.run.now.heap.items) stack ≡ applied c.args.set.now c.native_at-id.result (objects_of c.deref.result.now) stack =
-    ap (λ (heap : List Kept). applied c.args.set.now c.native_at-id.result (objects_of heap) stack) (sym c.deref.ensures.value) in
-    wrote_nothing c.args.set.now _ _ (call c.args.set.now c.args.links.now c.args.run.now c.args.next c.args.i c.requires.linked c.requires.lot c.requires.native c.requires.can) («end».Threw c.in-Threw.exception) (core_of c.args.run.now) d.1
-    (call_threw c.args.set.now c.args.links.now c.args.run.now c.args.next c.args.i c.requires.linked c.requires.lot c.requires.native c.requires.can c.native_at-id.result c.native_at-id.ensures c.in-Threw.exception (ap (λ (a : Applied). a.effect) same ∙ d.0))
+pub call_own-requires-clause-own : goal.call_own-requires-clause-own
+call_own-requires-clause-own g c =
+    let k = c.requires.call in
+    let call = subst (λ (a : Active). IsCall c.args.set.now a.class c.args.i) (sym (running_top c.args.run.now.frames.items c.deref.result.now c.running.result.now k.top k.below c.deref.ensures.value c.running.ensures k.is)) k.call in
+    let o = own_of c.args.set.now c.args.links.now c.requires.linked c.running.result.now.class c.args.i c.link_at.result.now c.link_at.ensures c.in-Method.target c.in-Method.is call in
+    record {
+      top = shown c.running.result.now;
+      below = map shown c.running.ensures.below;
+      is = running_shown c.args.run.now.frames.items c.deref.result.now c.running.result.now c.deref.ensures.value c.running.ensures;
+      call = o.0;
+      target_is = o.1;
+    }
+
+pub unreachable-requires : goal.unreachable-requires
+unreachable-requires g c =
+    let k = c.requires.call in
+    let call = subst (λ (a : Active). IsCall c.args.set.now a.class c.args.i) (sym (running_top c.args.run.now.frames.items c.deref.result.now c.running.result.now k.top k.below c.deref.ensures.value c.running.ensures k.is)) k.call in
+    some_link c.args.set.now c.args.links.now c.requires.linked c.running.result.now.class c.args.i c.link_at.result.now c.link_at.ensures call c.in_default.not-Native c.in_default.not-Method
+
+pub returns-in_err-call_own-in-Method-clause-err : goal.returns-in_err-call_own-in-Method-clause-err
+returns-in_err-call_own-in-Method-clause-err g c =
+    let k = c.requires.call in
+    on_err _ _ (cut_nothing _ _ _ refl (call_keeps c.args.set.now (core_of c.args.run.now) k.top k.below c.args.next c.args.i k.is))
+
+pub returns-in_ok-call_own-in-Method-clause-ok : goal.returns-in_ok-call_own-in-Method-clause-ok
+returns-in_ok-call_own-in-Method-clause-ok g c =
+    wrote_nothing c.args.set.now _ _ (needing c.args.set.now (core_of c.args.run.now) c.args.next (Invokes Static c.args.i)) «end».On (core_of c.call_own.new.run) refl c.in_ok-call_own-in-Method.ensures

@@ -1,7 +1,7 @@
 use Rattle.std.proofs.Common.{arith}
 use Rattle.class_machine.specs.Core.{core_of}
 use Rattle.class_machine.proofs.Stepping.{on_err}
-use Rattle.class_machine.proofs.Running.{reached_start, can_step, reached_more, run_ends, run_cut}
+use Rattle.class_machine.proofs.Sequences.{reached_start, can_step, reached_more, run_ends, run_cut}
 use Rattle.class_machine.proofs.steps.run_on.Goals as goal
 
 pub loop-init : goal.loop-init

@@ -25,3 +25,6 @@ returns-in-WriteFault-clause-ran g c =
 pub returns-clause-ran : goal.returns-clause-ran
 returns-clause-ran g c =
     broken_off c.args.set.now c.in-Ok.machine.set c.in-Ok.machine.core c.in-Ok.ensures.0 c.in-Ok.ensures.1 (g.O.Sink.taken c.args.out.now) (g.O.Sink.taken c.run.new.out) c.in-Memory.ensures.ran
+
+pub start-requires-clause-built : goal.start-requires-clause-built
+start-requires-clause-built g c = c.first_lot_is_built.ensures c.args.set.now c.requires.lot

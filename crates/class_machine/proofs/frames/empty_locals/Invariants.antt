@@ -1,7 +1,7 @@
 use Rattle.std.proofs.Common.{◌≡◌}
 use Rattle.std.proofs.Math.ListN.{replicate}
 use Rattle.class_file.specs.declared.value.Value.TheVariants.{Nothing}
-use Rattle.class_machine.proofs.begin.first_locals.Given as goal
+use Rattle.class_machine.proofs.frames.empty_locals.Given as goal
 
 abbrev pub invariant-loop : goal.invariant-loop
 invariant-loop l = l.locals.items ≡ replicate l.counter Nothing
