@@ -233,6 +233,10 @@ type_named set class i = if_type set (named_class class i)
 abbrev pub array_of : List ℕ → List ℕ
 array_of name = if is_array_name name then 91 ∷ name else 91 ∷ 76 ∷ name ++ 59 ∷ []
 
+-- the arrays of what a name of the pool stands for, where there are such
+abbrev pub array_named : Set → ClassFile → ℕ → Option (List ℕ)
+array_named set class i = if_type set (option_map array_of (named_class class i))
+
 -- what the elements of an array are
 abbrev pub element_of : List ℕ → Option (List ℕ)
 element_of [] = None

@@ -20,7 +20,7 @@ use Rattle.class_file.specs.Pools.{entry_at, constant_in, Constant, Number, Lite
 use Rattle.class_file.specs.Rows.{instr_at}
 use Rattle.class_file.specs.Descriptors.{is_array_name}
 use Rattle.class_file.specs.Classes.{class_number}
-use Rattle.class_file.specs.Members.{assignable, Call, described, static_call, ReceiverCall, virtual_call, SpecialCall, Constructs, CallsSuper, NoSpecial, special_call, FieldUse, field_use, named_class, type_named, array_of, element_of}
+use Rattle.class_file.specs.Members.{assignable, Call, described, static_call, ReceiverCall, virtual_call, SpecialCall, Constructs, CallsSuper, NoSpecial, special_call, FieldUse, field_use, named_class, type_named, array_named, element_of}
 
 -- The types of the local variables, one for each place, so that a Long is followed by Top; those of the stack, its top first;
 -- and whether this is a constructor that has not called another yet.
@@ -277,7 +277,7 @@ t_new pc t (Some name) =
 
 abbrev pub t_new_array : Types → Option (List ℕ) → Verdict
 t_new_array t None = Err WrongType
-t_new_array t (Some name) = t_int t.stack (λ rest. left t (Object (array_of name) ∷ rest))
+t_new_array t (Some name) = t_int t.stack (λ rest. left t (Object name ∷ rest))
 
 -- a reference that can be used
 abbrev pub t_reference : List VType → (List VType → Verdict) → Verdict
@@ -299,6 +299,8 @@ named_or_null None = Null
 abbrev pub t_array : List VType → (VType → List VType → Verdict) → Verdict
 t_array (Null ∷ ts) go = go Null ts
 t_array (Object c ∷ ts) go = elim (element_of c) [ Some name ↦ go (Object name) ts | None ↦ Err WrongType ]
+t_array (UninitializedThis ∷ ts) go = late (go Null ts)
+t_array (Uninitialized at ∷ ts) go = late (go Null ts)
 t_array _ go = Err WrongType
 
 abbrev pub t_throw : Set → Types → Verdict
@@ -355,7 +357,7 @@ typed set class m pc (row.InvokeSpecial i) t = t_special set class m t (special_
 typed set class m pc (row.InvokeStatic i) t = t_call set t (static_call set class i)
 typed set class m pc (row.InvokeInterface i) t = t_interface set t (virtual_call set true class i)
 typed set class m pc (row.New i) t = t_new pc t (named_class class i)
-typed set class m pc (row.NewArray i) t = t_new_array t (type_named set class i)
+typed set class m pc (row.NewArray i) t = t_new_array t (array_named set class i)
 typed set class m pc (row.CheckCast i) t = t_cast t (named_or_null (type_named set class i)) (type_named set class i)
 typed set class m pc (row.InstanceOf i) t = t_cast t Integer (type_named set class i)
 typed set class m pc row.ArrayLength t = t_array t.stack (λ u rest. left t (Integer ∷ rest))

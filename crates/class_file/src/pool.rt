@@ -107,6 +107,41 @@ impl Pool {
         Ok(self.add(entry)?)
     }
 
+    /// Puts an entry at the pool's end, also one that is there already: its first index counts.
+    pub fn append(&mut self, entry: Entry) -> Result<(), Memory>
+        requires { length self.old + places_of entry ≤ 65535 }
+        ensures ok { OnOk result (self.new ≡ self.old ++ added entry) }
+        ensures err { OnErr result (self.new ≡ self.old) }
+    {
+        match self.entries.get(&entry).copied() {
+            None => {
+                let _ = self.add(entry)?;
+                Ok(())
+            }
+            Some(index) => {
+                self.add_again(index, &entry)?;
+                Ok(())
+            }
+        }
+    }
+
+    // Puts an entry, which stands at this index, at the end once more.
+    fn add_again(&mut self, index: u16, entry: &Entry) -> Result<(), Memory>
+        requires at { (0 < index) × (entry_at self.old index ≡ Some entry.now) }
+        requires room { length self.old + places_of entry.now ≤ 65535 }
+        ensures ok { OnOk result (self.new ≡ self.old ++ added entry.now) }
+        ensures err { OnErr result (self.new ≡ self.old) }
+    {
+        let count = places_of(entry);
+        self.places.reserve(2)?;
+        let place = self.places[index as usize - 1];
+        self.places.push(place)?;
+        if count == 2 {
+            self.places.push(None)?;
+        }
+        Ok(())
+    }
+
     // Adds a new entry, for which there is room.
     fn add(&mut self, entry: Entry) -> Result<u16, Memory>
         requires new { ¬ (Contains self.old (Some entry)) }
@@ -172,6 +207,21 @@ mod tests {
         assert!(rt; matches!(pool.get(4), Some(Entry::Class(1))));
         assert!(rt; pool.get(3).is_none());
         assert!(rt; pool.get(7).is_none());
+        Ok(())
+    }
+
+    #[test]
+    fn takes_an_entry_again(rt: HostRuntime) -> Result<(), Failed> {
+        let mut pool = Pool::new(rt.alloc());
+        pool.append(Entry::Class(2))?;
+        pool.append(Entry::Long(7))?;
+        pool.append(Entry::Class(2))?;
+        pool.append(Entry::Long(7))?;
+        assert_eq!(rt; pool.count(), 7);
+        assert!(rt; matches!(pool.get(4), Some(Entry::Class(2))));
+        assert!(rt; matches!(pool.get(5), Some(Entry::Long(7))));
+        assert!(rt; pool.get(6).is_none());
+        assert_eq!(rt; pool.index(Entry::Long(7))?, 2);
         Ok(())
     }
 

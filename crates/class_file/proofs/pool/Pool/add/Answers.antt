@@ -15,7 +15,7 @@ one c =
     adding es c.insert.new.self.entries c.self.inside.places.items c.push.new.self.items c.args.entry c.len-place.result (c.len.result + 1) c.self.invariant
     (c.in_ok-insert.ensures.entries ∙ insert_entry-new entry_eq c.self.inside.entries c.args.entry (c.len.result + 1) none)
     c.len-place.ensures.len
-    (grew ∙ ap (λ (s : List (Option ℕ)). c.self.inside.places.items ++ s) (sym (places_added-one c.len-place.result c.args.entry (λ two. c.if-count-eq2.false (c.places_of-count.ensures.exact ∙ two)))))
+    (grew ∙ ap (λ (s : List (Option ℕ)). c.self.inside.places.items ++ s) (sym (places_added-one (Some c.len-place.result) c.args.entry (λ two. c.if-count-eq2.false (c.places_of-count.ensures.exact ∙ two)))))
     (omega (arith, c.len.ensures))
     (subst (λ (s : Slots). length s + places_of c.args.entry ≤ 65535) (sym c.self.view_is) c.requires.room)
 
@@ -38,7 +38,7 @@ two c =
     adding es c.insert.new.self.entries c.self.inside.places.items c.push-then-count-eq2.new.self.items c.args.entry c.len-place.result (c.len.result + 1) c.self.invariant
     (c.in_ok-insert.ensures.entries ∙ insert_entry-new entry_eq c.self.inside.entries c.args.entry (c.len.result + 1) none)
     c.len-place.ensures.len
-    (grew ∙ ap (λ (s : List (Option ℕ)). c.self.inside.places.items ++ s) (sym (places_added-two c.len-place.result c.args.entry (sym c.places_of-count.ensures.exact ∙ c.if-count-eq2.true))))
+    (grew ∙ ap (λ (s : List (Option ℕ)). c.self.inside.places.items ++ s) (sym (places_added-two (Some c.len-place.result) c.args.entry (sym c.places_of-count.ensures.exact ∙ c.if-count-eq2.true))))
     (omega (arith, c.len.ensures))
     (subst (λ (s : Slots). length s + places_of c.args.entry ≤ 65535) (sym c.self.view_is) c.requires.room)
 
