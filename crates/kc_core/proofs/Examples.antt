@@ -1,5 +1,5 @@
 -- The meaning of small programs, computed, and trees that are not well formed.
-use Rattle.std.proofs.Common.{◌≡◌, ℕ, List, [], ◌∷◌, Option, Some, None, Bool, true, false, cond, refl, sym, ap, ◌∙◌, subst}
+use Rattle.std.proofs.Common.{◌≡◌, ℕ, List, [], ◌∷◌, Option, Some, None, Bool, true, false, cond, refl, ◌∙◌, arith}
 use Rattle.std.specs.Prelude.{ℤ, pos, negsuc, codes, nat_eq, slice_get}
 use Rattle.std.specs.Fmt.{digits}
 use Rattle.std.specs.Char.Utf16.{utf16_chars}
@@ -19,8 +19,11 @@ use Rattle.kc_core.specs.declared.tree.Core.{Core}
 use Rattle.kc_core.specs.declared.tree.Kind.{Kind, out-Kind}
 use Rattle.kc_core.specs.declared.tree.Kind.TheOpen.{Kind-F}
 use Rattle.kc_core.specs.declared.tree.Kind.TheViews.{roll-Kind, out-roll-Kind}
+use Rattle.kc_core.specs.declared.tree.Kind.TheFolds.{map-Kind, fold_out-Core, fold-roll-Kind}
 use Rattle.kc_core.specs.Runs.{Outcome, Going, Over}
 use Rattle.kc_core.specs.Meaning.{Ending, Ended, Threw, Broken, division_by_zero, meaning}
+use Rattle.kc_core.specs.Room.{kind_weight, core_weight, weight_of, function_weight}
+use Rattle.kc_core.specs.RoomLaws.{weight_of_kind}
 use Rattle.kc_core.specs.Formed.{Assigned, none_assigned, marked, Among, Formed, FormedAll, MainFormed}
 use Rattle.kc_core.specs.FormedLaws.{read_assigned, operands_are_ints}
 
@@ -407,3 +410,35 @@ stored_as_other_type :
     (meaning (program (a_var ∷ []) (declare_of 0 (truth true) ∷ printing (read_of type_is.Boolean 0) ∷ [])) 0 [] 40 ≡ Over Ended (codes "true\n"))
 unfolding out-Kind denote.Hole.Carrier.out roll-Kind denote.Hole.Carrier.roll Rattle.kc_core.specs.declared.tree.Kind.TheBlock.shown-the_row-Core-1 denote.Hole.Carrier.shown denote.Hole.Carrier.hidden digits utf16_chars encode
 stored_as_other_type = refl
+
+-- ---- weights
+
+weighed : (ty : TypeTree) (k : Kind-F Kind Core) → weight_of (node ty k) ≡ kind_weight (map-Kind Kind Core ℕ ℕ weight_of_kind weight_of k)
+weighed ty k = fold_out-Core ℕ ℕ kind_weight core_weight (node ty k) ∙ fold-roll-Kind ℕ ℕ kind_weight core_weight k
+
+number_weighs : (z : ℤ) → weight_of (number z) ≡ 14
+number_weighs z = weighed type_is.Int (Kind-F.IntLit z)
+
+text_weighs : (t : List ℕ) → weight_of (text t) ≡ 14
+text_weighs t = weighed type_is.String (Kind-F.StrLit t)
+
+-- a line that is a number weighs 14 and, as a part of a block, 2 more
+numbers_weigh : function_weight (main_of [] (number (pos 0) ∷ number (pos 1) ∷ number (pos 2) ∷ [])) ≡ 79
+numbers_weigh =
+    let whole = weighed type_is.Unit (Kind-F.Block (number (pos 0) ∷ number (pos 1) ∷ number (pos 2) ∷ [])) in
+    let a = number_weighs (pos 0) in
+    let b = number_weighs (pos 1) in
+    let c = number_weighs (pos 2) in
+    omega (arith, whole, a, b, c)
+
+abbrev line_of : ℤ → Core
+line_of z = node type_is.String (Kind-F.Concat (number z ∷ text (codes "\n") ∷ []))
+
+-- `println(1)`: 24 for the call and 8 for what it takes, 30 for the text and 24 for each part, 14 for each of its two constants
+printing_weighs : weight_of (printing (number (pos 1))) ≡ 138
+printing_weighs =
+    let whole = weighed type_is.Unit (Kind-F.CallNative native_is.ConsoleWrite (line_of (pos 1) ∷ [])) in
+    let line = weighed type_is.String (Kind-F.Concat (number (pos 1) ∷ text (codes "\n") ∷ [])) in
+    let a = number_weighs (pos 1) in
+    let b = text_weighs (codes "\n") in
+    omega (arith, whole, line, a, b)

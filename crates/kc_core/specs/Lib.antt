@@ -6,5 +6,7 @@ pub mod Meaning
 pub mod MeaningLaws
 pub mod Formed
 pub mod FormedLaws
+pub mod Room
+pub mod RoomLaws
 pub mod Theorems
 pub mod NeverBroken
