@@ -13,11 +13,11 @@ use Rattle.class_file.specs.declared.value.Value.{Value as Slot}
 use Rattle.class_file.specs.declared.value.Value.TheVariants as slot
 use Rattle.class_file.specs.declared.class.Set.{Set}
 use Rattle.class_file.specs.Natives.{Object}
-use Rattle.class_file.specs.Machine.{Ending, Ended, Stuck, Next, Going, Over, on_from, machine, first, first_heap, first_statics, first_locals, handlers_of, written}
+use Rattle.class_file.specs.Machine.{Ending, Ended, Stuck, Next, Going, Over, on_from, machine, first, first_heap, first_statics, first_locals, handlers_of, written as told}
 use Rattle.class_file.specs.Runs.{on_add, over_after, grows}
-use Rattle.stack_code.specs.Code.{Leave, Spells, discards, code_of, body_code, bit}
+use Rattle.stack_code.specs.Code.{Operation, Leave, Spells, kept, discards, code_of, body_code, bit}
 use Rattle.stack_code.specs.Agrees.{source_outcome, machine_outcome, meaning_run, machine_run, IsCompiled, NeverBrokenAt, CompiledAgrees}
-use Rattle.stack_code.proofs.Runs.{Typed, Held, Spot, Quiet, live, IsGoing, printed, HasAt, has_front, factor, Run, Ready}
+use Rattle.stack_code.proofs.Runs.{Typed, On, Held, Spot, Quiet, live, IsGoing, printed, HasAt, has_front, written, factor, Run, Ready}
 use Rattle.stack_code.proofs.Steps.{discard, leave}
 use Rattle.stack_code.proofs.Single.{behind}
 use Rattle.stack_code.proofs.Nodes.{sized, type_of_code, node_acts}
@@ -29,7 +29,7 @@ over_is : (x : Next) → runs.IsOver (machine_outcome x) → (how : Ending) × (
 over_is (Going s) h = absurd h
 over_is (Over how out) h = (how, out, refl)
 
-said_is : (x : Next) → runs.said (machine_outcome x) ≡ written x
+said_is : (x : Next) → runs.said (machine_outcome x) ≡ told x
 said_is (Going s) = refl
 said_is (Over how out) = refl
 
@@ -77,6 +77,9 @@ module _ (set : Set) (program : Program) (main : ℕ) (c : IsCompiled set progra
       has_all set o c.method (method_is set program main c) (body_code c.function.body)
       (subst (λ pool. Spells pool 0 c.method.code (body_code c.function.body)) (sym (pool_is set program main c)) c.code.spelled)
 
+  abbrev last : List Operation
+  last = discards c.function.body.ty ++ Leave ∷ []
+
   abbrev S : ℕ
   S = (code_of c.function.body).nodes
 
@@ -112,7 +115,7 @@ module _ (set : Set) (program : Program) (main : ℕ) (c : IsCompiled set progra
   returns at ls h s type_is.Unit (Text t) xs code is = absurd (let q = is.0 in cc)
 
   body : source.Completion → Type 0
-  body r = (n : ℕ) → source.meaning program main input n ≡ source.outcome_of r → Run set S o (Typed (code_of c.function.body).ty) (live o 0 locals [] first_heap (known n)) first_heap n 0 S locals (0 + (code_of c.function.body).size) [] r → runs.Says (factor + 1) S (machine_run set input) n (source_outcome (source.outcome_of r))
+  body r = (n : ℕ) → source.meaning program main input n ≡ source.outcome_of r → Run set S o (On (code_of c.function.body).goes_on (Typed (code_of c.function.body).ty)) (live o 0 locals [] first_heap (known n)) first_heap n 0 S locals (0 + (code_of c.function.body).size) [] r → runs.Says (factor + 1) S (machine_run set input) n (source_outcome (source.outcome_of r))
 
   -- from the first step on
   from_start : (n j : ℕ) → on_from set (1 + j) (Going (first set input)) ≡ on_from set j (live o 0 locals [] first_heap (known n))
@@ -122,8 +125,8 @@ module _ (set : Set) (program : Program) (main : ℕ) (c : IsCompiled set progra
   unfolding body known
   comes_to (source.Gives v s) n e g =
       let after = returns (0 + (code_of c.function.body).size) g.ls' g.h' s c.function.body.ty v g.xs
-      (behind set o (code_of c.function.body) (sized c.function.body) 0 (discards c.function.body.ty ++ Leave ∷ []) code)
-      (subst (λ ty. Typed ty g.h' v g.xs) (type_of_code c.function.body) g.is) in (
+      (written set o (0 + (code_of c.function.body).size) (code_of c.function.body).goes_on last g.is.0 (behind set o (code_of c.function.body) (sized c.function.body) 0 (kept (code_of c.function.body).goes_on last) code))
+      (subst (λ ty. Typed ty g.h' v g.xs) (type_of_code c.function.body) g.is.1) in (
         1 + (g.j + after.0),
         omega (arith, g.most, g.units, after.1),
         ap machine_outcome (from_start n (g.j + after.0) ∙ on_add set g.j after.0 (live o 0 locals [] first_heap (known n)) ∙ ap (on_from set after.0) g.runs ∙ after.2),
@@ -143,7 +146,7 @@ module _ (set : Set) (program : Program) (main : ℕ) (c : IsCompiled set progra
   ready n = record {
     deep = omega arith;
     small = omega arith;
-    code = has_front set o 0 (code_of c.function.body).code (discards c.function.body.ty ++ Leave ∷ []) code;
+    code = has_front set o 0 (code_of c.function.body).code (kept (code_of c.function.body).goes_on last) code;
     held = held n;
     quiet = quiet;
   }

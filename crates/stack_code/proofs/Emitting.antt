@@ -1,22 +1,16 @@
 -- Emitting one stretch of code behind another.
-use Rattle.std.proofs.Common.{◌≡◌, ℕ, ◌+◌, inl, inr, List, [], ◌∷◌, ◌++◌, length, Option, Some, None, refl, sym, ap, ◌∙◌, subst, arith, append_assoc, append-nil, ⊎_elim}
-use Rattle.std.specs.Prelude.{slice_get}
+use Rattle.std.proofs.Common.{◌≡◌, ℕ, ◌+◌, inl, inr, List, [], ◌∷◌, ◌++◌, length, Option, Some, None, refl, sym, ap, ◌∙◌, subst, append_assoc, append-nil, ⊎_elim}
+use Rattle.std.specs.Prelude.{slice_get, ◌&&◌}
 use Rattle.class_file.specs.declared.pool.Entry.{Entry}
 use Rattle.class_file.specs.declared.pool.Entry.TheVariants.{Utf8, Integer, Long, Class, Str, FieldRef, MethodRef, InterfaceMethodRef, NameAndType}
 use Rattle.class_file.specs.declared.instr.Instr.{Instr}
 use Rattle.class_file.specs.Pools.{Slots, flat, entry_at, text_in, name_in, typed_in, method_in, member_of, Member, Named, named, named_in, constant_in, literal_of, Constant, Extends}
 use Rattle.class_file.specs.declared.value.NativeId.{NativeId}
 use Rattle.class_file.specs.Lots.{NamesNative}
-use Rattle.stack_code.specs.Code.{native_of, Operation, PushInt, PushText, Load, Store, Compute, Negate, Discard, Call, Jump, JumpIf, JumpCompare, Leave, bytes_of, StandsFor, Spells}
-use Rattle.std.proofs.Common.{drop, map, ◌<◌, ◌≤◌, Bool, true, false, length-drop, get_or}
+use Rattle.stack_code.specs.Code.{native_of, Operation, PushInt, PushText, Load, Store, Compute, Negate, Discard, Call, Jump, JumpIf, JumpCompare, Leave, bytes_of, StandsFor, Spells, Emitted, kept, two_ops, truth}
+use Rattle.std.proofs.Common.{drop, ◌<◌, ◌≤◌, Bool, true, false, get_or}
 use Rattle.std.proofs.lemmas.List.{drop_all, drop_more}
-use Rattle.std.proofs.lemmas.Bool.{cases_lt}
-use Rattle.stack_code.specs.Code.{discards, to_text}
-use Rattle.stack_code.specs.Emission.{after_part, after_text, texts_left}
-use Rattle.stack_code.proofs.Nodes.{type_of_code}
-use Rattle.stack_code.specs.declared.constants.Helper.TheVariants as helper
 use Rattle.kc_core.specs.declared.tree.Core.{Core}
-use Rattle.stack_code.specs.Code.{code_of, in_turn, values, further_texts}
 use Rattle.stack_code.specs.Emission.{Emits, IsFor, NamesTypes, Partly}
 use Rattle.stack_code.proofs.Lists.{get_front}
 
@@ -228,32 +222,27 @@ next_part es i e lt h = drop_more es i e lt ∙ ap (λ x. x ∷ drop (i + 1) es)
 pub nothing_left : (es : List Core) (i : ℕ) → length es ≤ i → drop i es ≡ []
 nothing_left es i h = drop_all i es h
 
-pub values_next : (es : List Core) (i : ℕ) (e : Core) → i < length es → e ≡ get_or es i e → (values (map code_of (drop i es))).code ≡ (code_of e).code ++ (values (map code_of (drop (i + 1) es))).code
-values_next es i e lt h = ap (λ w. (values (map code_of w)).code) (next_part es i e lt h)
+-- code, and what stands behind it
+pub emits_kept : (a b c : List Instr) (p q r : Slots) (goes : Bool) (ops more : List Operation) → goes ≡ true → Emits a b p q ops → Emits b c q r more → Emits a c p r (ops ++ kept goes more)
+emits_kept a b c p q r goes ops more on f g = subst (λ g. Emits a c p r (ops ++ kept g more)) (sym on) (emits_then a b c p q r ops more f g)
 
-turn_is : (e : Core) (rest : List Core) (last : Bool) → (last ≡ true → rest ≡ []) → (last ≡ false → 0 < length rest) → (in_turn (map code_of (e ∷ rest))).code ≡ ((code_of e).code ++ after_part last (code_of e).ty) ++ (in_turn (map code_of rest)).code
-turn_is e [] true f g = sym (append_assoc (code_of e).code [] [])
-turn_is e [] false f g = absurd (let h = g refl in omega arith)
-turn_is e (x ∷ rest) true f g = absurd (let h = f refl in cc)
-turn_is e (x ∷ rest) false f g = sym (append_assoc (code_of e).code (discards (code_of e).ty) (in_turn (map code_of (x ∷ rest))).code)
+-- code that does not go on
+pub emits_alone : (a b : List Instr) (p q : Slots) (goes : Bool) (ops more : List Operation) → goes ≡ false → Emits a b p q ops → Emits a b p q (ops ++ kept goes more)
+emits_alone a b p q goes ops more off f = subst (λ g. Emits a b p q (ops ++ kept g more)) (sym off) (subst (Emits a b p q) (sym (append-nil ops)) f)
 
-pub turn_next : (es : List Core) (i : ℕ) (e : Core) (last : Bool) → i < length es → e ≡ get_or es i e → (last ≡ true → i + 1 ≡ length es) → (last ≡ false → i + 1 ≡ length es → ⊥) → (in_turn (map code_of (drop i es))).code ≡ ((code_of e).code ++ after_part last e.ty) ++ (in_turn (map code_of (drop (i + 1) es))).code
-turn_next es i e last lt h f g =
-    ap (λ w. (in_turn (map code_of w)).code) (next_part es i e lt h)
-    ∙ turn_is e (drop (i + 1) es) last (λ t. nothing_left es (i + 1) (let k = f t in omega arith)) (λ t. (let k = g t in let l = length-drop (i + 1) es in let m = not_equal (i + 1) (length es) k lt (omega arith) in omega (arith, l, m)))
-    ∙ ap (λ ty. ((code_of e).code ++ after_part last ty) ++ (in_turn (map code_of (drop (i + 1) es))).code) (type_of_code e)
+-- two stretches of code, and what stands behind both
+pub emits_two : (a b c : List Instr) (p q r : Slots) (x y : Emitted) (tail : List Operation) → (x.goes_on && y.goes_on) ≡ true → Emits a b p q (x.code ++ kept x.goes_on y.code) → Emits b c q r tail → Emits a c p r (two_ops x y tail)
+emits_two a b c p q r x y tail both f g = by_both x.goes_on y.goes_on both f
   where
-    not_equal : (n m : ℕ) → (n ≡ m → ⊥) → i < m → n ≤ m → n < m
-    not_equal n m k l q = ⊎_elim (λ a. a) (λ a. absurd (k (omega arith))) (cases_lt n m)
+    by_both : (u v : Bool) → (u && v) ≡ true → Emits a b p q (x.code ++ kept u y.code) → Emits a c p r (x.code ++ kept u (y.code ++ kept v tail))
+    by_both true true e f = subst (Emits a c p r) (append_assoc x.code y.code tail) (emits_then a b c p q r (x.code ++ y.code) tail f g)
+    by_both true false e f = cc
+    by_both false v e f = cc
 
-text_is : (e : Core) (rest : List Core) (first : Bool) → texts_left first (map code_of (e ∷ rest)) ≡ ((code_of e).code ++ after_text first (code_of e).ty) ++ texts_left false (map code_of rest)
-text_is e rest true = sym (append_assoc (code_of e).code (to_text (code_of e).ty) (further_texts (map code_of rest)).code)
-text_is e rest false = sym (append_assoc (code_of e).code (to_text (code_of e).ty ++ Call helper.TextsConcat ∷ []) (further_texts (map code_of rest)).code)
-
-pub text_next : (es : List Core) (i : ℕ) (e : Core) (first : Bool) → i < length es → e ≡ get_or es i e → texts_left first (map code_of (drop i es)) ≡ ((code_of e).code ++ after_text first e.ty) ++ texts_left false (map code_of (drop (i + 1) es))
-text_next es i e first lt h =
-    ap (λ w. texts_left first (map code_of w)) (next_part es i e lt h) ∙ text_is e (drop (i + 1) es) first
-    ∙ ap (λ ty. ((code_of e).code ++ after_text first ty) ++ texts_left false (map code_of (drop (i + 1) es))) (type_of_code e)
+-- a test, and the value made of what it comes to
+pub emits_truth : (a b c : List Instr) (p q : Slots) (g goes : Bool) (ops whole : List Operation) → g ≡ goes → whole ≡ ops ++ kept goes truth → Emits a b p q ops → ((r : Slots) → Emits b c r r (kept g truth)) → Emits a c p q whole
+emits_truth a b c p q g goes ops whole e is f h =
+    subst (Emits a c p q) (sym is) (emits_then a b c p q q ops (kept goes truth) f (subst (λ g. Emits b c q q (kept g truth)) e (h q)))
 
 -- code that begins empty
 pub emits_all : (new : List Instr) (p q : Slots) (ops : List Operation) → Emits [] new p q ops → Spells q 0 new ops

@@ -23,7 +23,7 @@ pub record Stands (pool : Slots) (at : ℕ) (i : Instr) : Type 0 where
   pub stands : StandsFor pool at i op
 
 -- where an instruction starts
-found_at : (i : Instr) (is : List Instr) (pc : ℕ) (j : Instr) → instr_at (i ∷ is) pc ≡ Some j → ((pc ≡ 0) × (i ≡ j)) ⊎ ((length_of i ≤ pc) × (instr_at is (pc - length_of i) ≡ Some j))
+pub found_at : (i : Instr) (is : List Instr) (pc : ℕ) (j : Instr) → instr_at (i ∷ is) pc ≡ Some j → ((pc ≡ 0) × (i ≡ j)) ⊎ ((length_of i ≤ pc) × (instr_at is (pc - length_of i) ≡ Some j))
 unfolding instr_at
 found_at i is pc j e = by_zero (pc == 0) refl e
   where
@@ -35,7 +35,7 @@ found_at i is pc j e = by_zero (pc == 0) refl e
     by_zero true q e = inl (eqb-true pc 0 q, cc)
     by_zero false q e = by_less (nat_lt pc (length_of i)) refl e
 
-nothing_at : (pc : ℕ) (i : Instr) → instr_at [] pc ≡ Some i → ⊥
+pub nothing_at : (pc : ℕ) (i : Instr) → instr_at [] pc ≡ Some i → ⊥
 unfolding instr_at
 nothing_at pc i e = cc
 

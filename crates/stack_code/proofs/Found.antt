@@ -15,7 +15,7 @@ use Rattle.class_file.specs.Machine.{State, Next, Going, with, pool_of, class_po
 use Rattle.class_file.specs.Lots.{MainIsPlain, static_named}
 use Rattle.stack_code.specs.Agrees.{IsCompiled}
 
-text_same : (t : List ℕ) → is_text t t ≡ true
+pub text_same : (t : List ℕ) → is_text t t ≡ true
 text_same [] = refl
 text_same (u ∷ us) = ap (λ (b : Bool). b && is_text us us) (eq-eqb u u refl) ∙ text_same us
 

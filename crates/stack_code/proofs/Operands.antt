@@ -1,6 +1,6 @@
 -- Nodes with one child or two: their code does what they do.
-use Rattle.std.proofs.Common.{◌≡◌, ℕ, suc, ◌+◌, ◌<◌, ◌≤◌, List, [], ◌∷◌, ◌++◌, length, Option, Some, None, false, refl, sym, ap, ◌∙◌, subst, arith}
-use Rattle.std.specs.Prelude.{slice_get, slice_set, ℤ, nat_lt}
+use Rattle.std.proofs.Common.{◌≡◌, ℕ, suc, ◌+◌, ◌<◌, ◌≤◌, List, [], ◌∷◌, ◌++◌, length, Option, Some, None, Bool, false, refl, sym, ap, ◌∙◌, subst, arith}
+use Rattle.std.specs.Prelude.{slice_get, slice_set, ℤ, nat_lt, ◌&&◌}
 use Rattle.std.proofs.lemmas.Bool.{le-ltb}
 use Rattle.kc_core.specs.declared.tree.TypeTree.{TypeTree}
 use Rattle.kc_core.specs.declared.tree.TypeTree.TheVariants as type_is
@@ -16,8 +16,8 @@ use Rattle.class_file.specs.declared.value.Kind.TheVariants as kinds
 use Rattle.class_file.specs.declared.class.Set.{Set}
 use Rattle.class_file.specs.Natives.{Object}
 use Rattle.class_file.specs.Machine.{Next, Over, Threw, on_from, after, or_zero_divisor, int_answer, Goes}
-use Rattle.stack_code.specs.Code.{Operation, Compute, Negate, bytes, Emitted, stores, then_code, two_code, operator_of, local_bytes, bit}
-use Rattle.stack_code.proofs.Runs.{grows_none, Represents, represents_on, Typed, Holds, Held, Spot, Quiet, live, HasAt, has_front, Sized, factor, Reaches, Run, run_on, bind, own, ends_at, Ready, Follows, Inside, with_check, entered}
+use Rattle.stack_code.specs.Code.{Operation, Compute, Negate, bytes, Emitted, stores, then_code, two_code, operator_of, local_bytes, bit, kept, kept_bytes}
+use Rattle.stack_code.proofs.Runs.{grows_none, Represents, represents_on, Typed, On, Holds, Held, Spot, Quiet, live, HasAt, has_front, written, kept_all, both_on, Sized, factor, Reaches, Run, run_on, bind, evident, own, ends_at, Ready, Follows, Inside, with_check, entered}
 use Rattle.stack_code.proofs.Steps.{frame, state, store, negate, compute}
 use Rattle.stack_code.proofs.Lists.{get_same, get_other, set_length, within, held_write}
 use Rattle.stack_code.proofs.Single.{behind, unhandled}
@@ -36,19 +36,24 @@ module _ (set : Set) (S : ℕ) where
     where
       inside : Inside set S d a.nodes (then_code a tail ty) (λ s. then_do (fa s) go)
       inside s o at ls st h ready =
-          bind set S o (Typed a.ty) Represents (at + a.size) (at + (a.size + bytes tail)) st st c h s.units factor a.nodes 0 a.nodes ls (omega arith) (omega arith) go last (fa s) (ra s o at ls st h ready_a)
+          bind set S o (On a.goes_on (Typed a.ty)) (On a.goes_on Represents) (at + a.size) end st st c h s.units factor a.nodes 0 a.nodes ls (omega arith) (omega arith) go last (fa s) (ra s o at ls st h ready_a)
         where
           c : Next
           c = live o at ls st h s
 
-          ready_a : Ready set S d a s o at ls h
-          ready_a = record { deep = ready.deep; small = omega (arith, ready.small); code = has_front set o at a.code tail ready.code; held = ready.held; quiet = ready.quiet }
+          end : ℕ
+          end = at + (a.size + kept_bytes a.goes_on (bytes tail))
 
-          last : (v : Value) (s1 : State) → Reaches set S c h s.units 0 a.nodes ls (λ h' xs. Typed a.ty h' v xs) s1 (λ ls' h' xs. live o (at + a.size) ls' (xs ++ st) h' s1) → Run set S o Represents c h s.units factor a.nodes ls (at + (a.size + bytes tail)) st (go v s1)
+          ready_a : Ready set S d a s o at ls h
+          ready_a = record { deep = ready.deep; small = omega (arith, ready.small); code = has_front set o at a.code (kept a.goes_on tail) ready.code; held = ready.held; quiet = ready.quiet }
+
+          last : (v : Value) (s1 : State) → Reaches set S c h s.units 0 a.nodes ls (λ h' xs. On a.goes_on (Typed a.ty) h' v xs) s1 (λ ls' h' xs. live o (at + a.size) ls' (xs ++ st) h' s1) → Run set S o (On a.goes_on Represents) c h s.units factor a.nodes ls end st (go v s1)
           last v s1 g =
-              run_on set S o Represents (at + (a.size + bytes tail)) st c h s.units factor a.nodes 0 a.nodes factor 0 ls s1 (λ h' xs. Typed a.ty h' v xs) (λ ls' h' xs. live o (at + a.size) ls' (xs ++ st) h' s1) g (omega arith) (omega arith) (go v s1)
-              (ends_at set S o Represents (live o (at + a.size) g.ls' (g.xs ++ st) g.h' s1) g.h' s1.units factor 0 g.ls' (at + a.size + bytes tail) (at + (a.size + bytes tail)) st (go v s1) (omega arith)
-              (rt v g.xs s1 o (at + a.size) g.ls' st g.h' (behind set o a za at tail ready.code) g.held ready.quiet g.is))
+              let f = kept_all a.goes_on (bytes tail) g.is.0 in
+              evident set S o Represents (λ v. Some end) st c h s.units factor a.nodes ls a.goes_on g.is.0 (go v s1)
+              (run_on set S o Represents end st c h s.units factor a.nodes 0 a.nodes factor 0 ls s1 (λ h' xs. On a.goes_on (Typed a.ty) h' v xs) (λ ls' h' xs. live o (at + a.size) ls' (xs ++ st) h' s1) g (omega arith) (omega arith) (go v s1)
+              (ends_at set S o Represents (live o (at + a.size) g.ls' (g.xs ++ st) g.h' s1) g.h' s1.units factor 0 g.ls' (at + a.size + bytes tail) end st (go v s1) (omega (arith, f))
+              (rt v g.xs s1 o (at + a.size) g.ls' st g.h' (written set o (at + a.size) a.goes_on tail g.is.0 (behind set o a za at (kept a.goes_on tail) ready.code)) g.held ready.quiet g.is.1)))
 
   negate_tail : (ty : TypeTree) (span : Span) → Tail ty (Negate ∷ []) (λ x. on_int span x (λ m. Gives (Int (negated m))))
   negate_tail ty span (Int z) xs s o at ls st h code held quiet is =
@@ -163,13 +168,16 @@ module _ (set : Set) (S : ℕ) where
 
       inside : Inside set S d (a.nodes + b.nodes) whole (Two span op fa fb)
       inside s o at ls st h ready =
-          bind set S o (Typed a.ty) Represents (at + a.size) end st st c h s.units factor (a.nodes + b.nodes) 0 a.nodes ls (omega arith) (omega arith) (λ x s1. then_do (fb s1) (then' x)) second (fa s) (ra s o at ls st h ready_a)
+          bind set S o (On a.goes_on (Typed a.ty)) (On both Represents) (at + a.size) end st st c h s.units factor (a.nodes + b.nodes) 0 a.nodes ls (omega arith) (omega arith) (λ x s1. then_do (fb s1) (then' x)) second (fa s) (ra s o at ls st h ready_a)
         where
           c : Next
           c = live o at ls st h s
 
+          both : Bool
+          both = a.goes_on && b.goes_on
+
           end : ℕ
-          end = at + (a.size + b.size + 1)
+          end = at + (a.size + kept_bytes a.goes_on (b.size + kept_bytes b.goes_on 1))
 
           then' : Value → Value → State → Completion
           then' x y = on_int span x (λ m. on_int span y (λ n. number_or_zero_divisor (arithmetic op m n)))
@@ -177,22 +185,25 @@ module _ (set : Set) (S : ℕ) where
           ready_a : Ready set S d a s o at ls h
           ready_a = record { deep = ready.deep; small = omega (arith, ready.small); code = has_front set o at a.code _ ready.code; held = ready.held; quiet = ready.quiet }
 
-          at_b : HasAt set o (at + a.size) (b.code ++ tail)
-          at_b = behind set o a za at (b.code ++ tail) ready.code
-
-          second : (x : Value) (s1 : State) → Reaches set S c h s.units 0 a.nodes ls (λ h' xs. Typed a.ty h' x xs) s1 (λ ls' h' xs. live o (at + a.size) ls' (xs ++ st) h' s1) → Run set S o Represents c h s.units factor (a.nodes + b.nodes) ls end st (then_do (fb s1) (then' x))
+          second : (x : Value) (s1 : State) → Reaches set S c h s.units 0 a.nodes ls (λ h' xs. On a.goes_on (Typed a.ty) h' x xs) s1 (λ ls' h' xs. live o (at + a.size) ls' (xs ++ st) h' s1) → Run set S o (On both Represents) c h s.units factor (a.nodes + b.nodes) ls end st (then_do (fb s1) (then' x))
           second x s1 g =
-              run_on set S o Represents end st c h s.units factor (a.nodes + b.nodes) 0 a.nodes 18 b.nodes ls s1 (λ h' xs. Typed a.ty h' x xs) (λ ls' h' xs. live o (at + a.size) ls' (xs ++ st) h' s1) g (omega arith) (omega arith) (then_do (fb s1) (then' x))
-              (bind set S o (Typed b.ty) Represents (at + a.size + b.size) end (g.xs ++ st) st c1 g.h' s1.units 18 b.nodes 0 b.nodes g.ls' (omega arith) (omega arith) (then' x) last (fb s1) (rb s1 o (at + a.size) g.ls' (g.xs ++ st) g.h' ready_b))
+              run_on set S o (On both Represents) end st c h s.units factor (a.nodes + b.nodes) 0 a.nodes 18 b.nodes ls s1 (λ h' xs. On a.goes_on (Typed a.ty) h' x xs) (λ ls' h' xs. live o (at + a.size) ls' (xs ++ st) h' s1) g (omega arith) (omega arith) (then_do (fb s1) (then' x))
+              (bind set S o (On b.goes_on (Typed b.ty)) (On both Represents) (at + a.size + b.size) end (g.xs ++ st) st c1 g.h' s1.units 18 b.nodes 0 b.nodes g.ls' (omega arith) (omega arith) (then' x) last (fb s1) (rb s1 o (at + a.size) g.ls' (g.xs ++ st) g.h' ready_b))
             where
               c1 : Next
               c1 = live o (at + a.size) g.ls' (g.xs ++ st) g.h' s1
 
-              ready_b : Ready set S d b s1 o (at + a.size) g.ls' g.h'
-              ready_b = record { deep = omega (arith, g.units, ready.deep); small = omega (arith, ready.small); code = has_front set o (at + a.size) b.code tail at_b; held = g.held; quiet = ready.quiet }
+              at_b : HasAt set o (at + a.size) (b.code ++ kept b.goes_on tail)
+              at_b = written set o (at + a.size) a.goes_on (b.code ++ kept b.goes_on tail) g.is.0 (behind set o a za at (kept a.goes_on (b.code ++ kept b.goes_on tail)) ready.code)
 
-              last : (y : Value) (s2 : State) → Reaches set S c1 g.h' s1.units 0 b.nodes g.ls' (λ h' ys. Typed b.ty h' y ys) s2 (λ ls' h' ys. live o (at + a.size + b.size) ls' (ys ++ (g.xs ++ st)) h' s2) → Run set S o Represents c1 g.h' s1.units 18 b.nodes g.ls' end st (then' x y s2)
+              ready_b : Ready set S d b s1 o (at + a.size) g.ls' g.h'
+              ready_b = record { deep = omega (arith, g.units, ready.deep); small = omega (arith, ready.small); code = has_front set o (at + a.size) b.code (kept b.goes_on tail) at_b; held = g.held; quiet = ready.quiet }
+
+              last : (y : Value) (s2 : State) → Reaches set S c1 g.h' s1.units 0 b.nodes g.ls' (λ h' ys. On b.goes_on (Typed b.ty) h' y ys) s2 (λ ls' h' ys. live o (at + a.size + b.size) ls' (ys ++ (g.xs ++ st)) h' s2) → Run set S o (On both Represents) c1 g.h' s1.units 18 b.nodes g.ls' end st (then' x y s2)
               last y s2 g2 =
-                  run_on set S o Represents end st c1 g.h' s1.units 18 b.nodes 0 b.nodes factor 0 g.ls' s2 (λ h' ys. Typed b.ty h' y ys) (λ ls' h' ys. live o (at + a.size + b.size) ls' (ys ++ (g.xs ++ st)) h' s2) g2 (omega arith) (omega arith) (then' x y s2)
-                  (ends_at set S o Represents (live o (at + a.size + b.size) g2.ls' (g2.xs ++ (g.xs ++ st)) g2.h' s2) g2.h' s2.units factor 0 g2.ls' (at + a.size + b.size + 1) end st (then' x y s2) (omega arith)
-                  (compute_tail span op x y g.xs g2.xs s2 o (at + a.size + b.size) g2.ls' st g2.h' (behind set o b zb (at + a.size) tail at_b) g2.held ready.quiet (represents_on g.h' g2.h' x g.xs g2.grows g.is.1) g2.is.1))
+                  let e = kept_all a.goes_on (b.size + kept_bytes b.goes_on 1) g.is.0 in
+                  let f = kept_all b.goes_on 1 g2.is.0 in
+                  evident set S o Represents (λ v. Some end) st c1 g.h' s1.units 18 b.nodes g.ls' both (both_on a.goes_on b.goes_on g.is.0 g2.is.0) (then' x y s2)
+                  (run_on set S o Represents end st c1 g.h' s1.units 18 b.nodes 0 b.nodes factor 0 g.ls' s2 (λ h' ys. On b.goes_on (Typed b.ty) h' y ys) (λ ls' h' ys. live o (at + a.size + b.size) ls' (ys ++ (g.xs ++ st)) h' s2) g2 (omega arith) (omega arith) (then' x y s2)
+                  (ends_at set S o Represents (live o (at + a.size + b.size) g2.ls' (g2.xs ++ (g.xs ++ st)) g2.h' s2) g2.h' s2.units factor 0 g2.ls' (at + a.size + b.size + 1) end st (then' x y s2) (omega (arith, e, f))
+                  (compute_tail span op x y g.xs g2.xs s2 o (at + a.size + b.size) g2.ls' st g2.h' (written set o (at + a.size + b.size) b.goes_on tail g2.is.0 (behind set o b zb (at + a.size) (kept b.goes_on tail) at_b)) g2.held ready.quiet (represents_on g.h' g2.h' x g.xs g2.grows g.is.1.1) g2.is.1.1)))

@@ -20,11 +20,11 @@ abbrev lengths : List Instr → ℕ
 lengths [] = 0
 lengths (i ∷ is) = length_of i + lengths is
 
-here : (i : Instr) (is : List Instr) → instr_at (i ∷ is) 0 ≡ Some i
+pub here : (i : Instr) (is : List Instr) → instr_at (i ∷ is) 0 ≡ Some i
 unfolding instr_at
 here i is = refl
 
-past : (i : Instr) (is : List Instr) (q : ℕ) → instr_at (i ∷ is) (length_of i + q) ≡ instr_at is q
+pub past : (i : Instr) (is : List Instr) (q : ℕ) → instr_at (i ∷ is) (length_of i + q) ≡ instr_at is q
 unfolding instr_at
 past i is q =
     let p = positive i in

@@ -1,6 +1,6 @@
 -- How stretches of a run of the machine are put together, beside the meaning of what they run.
 use Rattle.std.proofs.Common.{◌≡◌, ℕ, zero, suc, ◌+◌, ◌*◌, ◌≤◌, List, [], ◌∷◌, ◌++◌, length, Option, Some, None, Bool, true, false, refl, ap, ◌∙◌, subst, arith}
-use Rattle.std.specs.Prelude.{slice_get}
+use Rattle.std.specs.Prelude.{slice_get, ◌&&◌}
 use Rattle.kc_core.specs.declared.tree.TypeTree.{TypeTree}
 use Rattle.kc_core.specs.declared.tree.Span.{Span}
 use Rattle.kc_core.specs.Values.{Value, Int, Boolean, Text, UnitValue, has_type}
@@ -13,7 +13,7 @@ use Rattle.class_file.specs.Rows.{length_of}
 use Rattle.class_file.specs.Natives.{Object, TextObject}
 use Rattle.class_file.specs.Machine.{Active, Next, Going, Over, Threw, on_from, fetch, class_pool, handlers_of, method_at}
 use Rattle.class_file.specs.Runs.{on_add}
-use Rattle.stack_code.specs.Code.{Operation, bytes_of, bytes, StandsFor, Emitted, bit}
+use Rattle.stack_code.specs.Code.{Operation, bytes_of, bytes, StandsFor, Emitted, bit, kept, kept_bytes}
 
 -- what was in the heap is there
 pub record Grows (h h' : List Object) : Type 0 where
@@ -35,6 +35,10 @@ Represents h UnitValue xs = xs ≡ []
 -- the same of a value that has a type
 abbrev pub Typed : TypeTree → List Object → Value → List Slot → Type 0
 Typed ty h v xs = (has_type v ty ≡ true) × Represents h v xs
+
+-- the same behind code that goes on
+abbrev pub On : Bool → (List Object → Value → List Slot → Type 0) → List Object → Value → List Slot → Type 0
+On goes rep h v xs = (goes ≡ true) × rep h v xs
 
 -- what a local variable of the machine holds is the value
 abbrev pub Holds : List Object → Value → Option Slot → Type 0
@@ -112,6 +116,24 @@ has_back set o at (x ∷ a) b h =
     let e : at + bytes_of x + bytes a ≡ at + (bytes_of x + bytes a) = omega arith in
     subst (λ n. HasAt set o n b) e (has_back set o (at + bytes_of x) a b h.1)
 
+-- what stands behind code that goes on is there
+pub written : (set : Set) (o : Spot) (at : ℕ) (goes : Bool) (os : List Operation) → goes ≡ true → HasAt set o at (kept goes os) → HasAt set o at os
+written set o at goes os e h = subst (λ g. HasAt set o at (kept g os)) e h
+
+pub kept_all : (goes : Bool) (n : ℕ) → goes ≡ true → kept_bytes goes n ≡ n
+kept_all goes n e = ap (λ g. kept_bytes g n) e
+
+pub kept_size : (goes : Bool) (os : List Operation) → bytes (kept goes os) ≡ kept_bytes goes (bytes os)
+kept_size true os = refl
+kept_size false os = refl
+
+pub kept_none : (goes : Bool) → kept_bytes goes 0 ≡ 0
+kept_none true = refl
+kept_none false = refl
+
+pub both_on : (a b : Bool) → a ≡ true → b ≡ true → (a && b) ≡ true
+both_on a b e f = ap (λ g. g && b) e ∙ f
+
 -- a node's sizes are those of its code
 pub record Sized (x : Emitted) : Type 0 where
   pub whole : bytes x.code ≡ x.size
@@ -136,6 +158,10 @@ aim_of w to end UnitValue = None
 -- a test leaves nothing on the stack
 abbrev pub Nothing : List Object → Value → List Slot → Type 0
 Nothing h v xs = xs ≡ []
+
+-- the value is true, and nothing is on the stack
+abbrev pub True : List Object → Value → List Slot → Type 0
+True h v xs = (v ≡ Boolean true) × (xs ≡ [])
 
 -- S bounds the nodes of the body
 module _ (set : Set) (S : ℕ) where
@@ -294,6 +320,17 @@ module _ (set : Set) (S : ℕ) where
   pub bind : (o : Spot) (rep1 rep : Rep) (end1 end : ℕ) (st1 st : List Slot) (c : Next) (h : List Object) (u A B A1 B1 : ℕ) (ls : List Slot) → A1 ≤ A → B1 ≤ B → (go : Value → State → Completion) → ((v : Value) (s1 : State) → Reaches c h u A1 B1 ls (λ h' xs. rep1 h' v xs) s1 (λ ls' h' xs. live o end1 ls' (xs ++ st1) h' s1) → Run o rep c h u A B ls end st (go v s1)) → (r : Completion) → Run o rep1 c h u A1 B1 ls end1 st1 r → Run o rep c h u A B ls end st (then_do r go)
   bind o rep1 rep end1 end st1 st c h u A B A1 B1 ls a b go then' r part = bind_to o rep1 rep (λ v. Some end1) (λ v. Some end) st1 st c h u A B A1 B1 ls a b go then' r part
 
+  -- the code goes on
+  pub evident : (o : Spot) (rep : Rep) (aim : Value → Option ℕ) (st : List Slot) (c : Next) (h : List Object) (u A B : ℕ) (ls : List Slot) (goes : Bool) → goes ≡ true → (r : Completion) → RunTo o rep c h u A B ls aim st r → RunTo o (On goes rep) c h u A B ls aim st r
+  evident o rep aim st c h u A B ls goes e r run = run_weak o (On goes rep) rep aim st c h u A B A B ls (omega arith) (omega arith) (λ h' v xs is. (e, is)) r run
+
+  -- the code does not go on, and so gives no value
+  pub never : (o : Spot) (rep rep1 : Rep) (aim : Value → Option ℕ) (end : ℕ) (st st1 : List Slot) (c : Next) (h : List Object) (u A B A1 B1 : ℕ) (ls : List Slot) → A1 ≤ A → B1 ≤ B → (r : Completion) → Run o (On false rep1) c h u A1 B1 ls end st1 r → RunTo o rep c h u A B ls aim st r
+  never o rep rep1 aim end st st1 c h u A B A1 B1 ls a b (Gives v s) r = absurd (let q = r.is.0 in cc)
+  never o rep rep1 aim end st st1 c h u A B A1 B1 ls a b (Throws x s) r = reaches_weak c h u A B A1 B1 ls s _ _ a b r
+  never o rep rep1 aim end st st1 c h u A B A1 B1 ls a b (Stops s) r = hangs_weak c u A B A1 B1 s a b r
+  never o rep rep1 aim end st st1 c h u A B A1 B1 ls a b (Breaks at s) r = tt
+
   -- m steps of the machine for which no unit is taken
   pub own : (m : ℕ) (c : Next) (h : List Object) (A B : ℕ) (ls ls' : List Slot) (h' : List Object) (xs : List Slot) (ok : List Object → List Slot → Type 0) (s : State) (tg : List Slot → List Object → List Slot → Next) → m + 2 ≤ A → on_from set m c ≡ tg ls' h' xs → ok h' xs → Grows h h' → Held h' ls' s.locals → length ls' ≡ length ls → Reaches c h s.units A B ls ok s tg
   own m c h A B ls ls' h' xs ok s tg le runs is grows held long = record {
@@ -360,8 +397,8 @@ module _ (set : Set) (S : ℕ) where
   ends_at o rep c h u A B ls end1 end st r e g = subst (λ x. Run o rep c h u A B ls x st r) e g
 
   -- with more to spend, up to another name of the same place
-  pub wider : (o : Spot) (end1 end : ℕ) (c : Next) (h : List Object) (u A1 A B : ℕ) (ls st : List Slot) (r : Completion) → A1 ≤ A → end1 ≡ end → Run o Represents c h u A1 B ls end1 st r → Run o Represents c h u A B ls end st r
-  wider o end1 end c h u A1 A B ls st r le e g = ends_at o Represents c h u A B ls end1 end st r e (run_weak o Represents Represents (λ v. Some end1) st c h u A B A1 B ls le (omega arith) (λ h' v xs is. is) r g)
+  pub wider : (o : Spot) (rep : Rep) (end1 end : ℕ) (c : Next) (h : List Object) (u A1 A B : ℕ) (ls st : List Slot) (r : Completion) → A1 ≤ A → end1 ≡ end → Run o rep c h u A1 B ls end1 st r → Run o rep c h u A B ls end st r
+  wider o rep end1 end c h u A1 A B ls st r le e g = ends_at o rep c h u A B ls end1 end st r e (run_weak o rep rep (λ v. Some end1) st c h u A B A1 B ls le (omega arith) (λ h' v xs is. is) r g)
 
   -- what a node finds whose code is this
   pub record Prepared (d : ℕ) (x : Emitted) (ops : List Operation) (s : State) (o : Spot) (at : ℕ) (ls : List Slot) (h : List Object) : Type 0 where
@@ -376,11 +413,11 @@ module _ (set : Set) (S : ℕ) where
 
   -- the code does what the node does
   abbrev pub Follows : ℕ → Emitted → (State → Completion) → Type 0
-  Follows d x f = (s : State) (o : Spot) (at : ℕ) (ls st : List Slot) (h : List Object) → Ready d x s o at ls h → Run o (Typed x.ty) (live o at ls st h s) h s.units 0 x.nodes ls (at + x.size) st (f s)
+  Follows d x f = (s : State) (o : Spot) (at : ℕ) (ls st : List Slot) (h : List Object) → Ready d x s o at ls h → Run o (On x.goes_on (Typed x.ty)) (live o at ls st h s) h s.units 0 x.nodes ls (at + x.size) st (f s)
 
   -- the same behind the node's own unit, and before its value is checked
   abbrev pub Inside : ℕ → ℕ → Emitted → (State → Completion) → Type 0
-  Inside d b x g = (s : State) (o : Spot) (at : ℕ) (ls st : List Slot) (h : List Object) → Ready d x s o at ls h → Run o Represents (live o at ls st h s) h s.units factor b ls (at + x.size) st (g s)
+  Inside d b x g = (s : State) (o : Spot) (at : ℕ) (ls st : List Slot) (h : List Object) → Ready d x s o at ls h → Run o (On x.goes_on Represents) (live o at ls st h s) h s.units factor b ls (at + x.size) st (g s)
 
   unit_reaches : (c : Next) (h : List Object) (u u1 b B : ℕ) (ls : List Slot) (s : State) (ok : List Object → List Slot → Type 0) (tg : List Slot → List Object → List Slot → Next) → u ≡ suc u1 → b + 1 ≤ B → Reaches c h u1 factor b ls ok s tg → Reaches c h u 0 B ls ok s tg
   unit_reaches c h u u1 b B ls s ok tg e le r = record {
@@ -439,24 +476,24 @@ module _ (set : Set) (S : ℕ) where
     least = r.least;
   }
 
-  if_typed_run : (o : Spot) (ty : TypeTree) (span : Span) (c : Next) (h : List Object) (u A B : ℕ) (ls : List Slot) (end : ℕ) (st : List Slot) (v : Value) (s : State) (b : Bool) → has_type v ty ≡ b → Run o Represents c h u A B ls end st (Gives v s) → Run o (Typed ty) c h u A B ls end st (if_typed b span v s)
-  if_typed_run o ty span c h u A B ls end st v s true e r = retyped c h u A B ls s _ _ _ (λ h' xs is. (e, is)) r
-  if_typed_run o ty span c h u A B ls end st v s false e r = tt
+  if_typed_run : (o : Spot) (goes : Bool) (ty : TypeTree) (span : Span) (c : Next) (h : List Object) (u A B : ℕ) (ls : List Slot) (end : ℕ) (st : List Slot) (v : Value) (s : State) (b : Bool) → has_type v ty ≡ b → Run o (On goes Represents) c h u A B ls end st (Gives v s) → Run o (On goes (Typed ty)) c h u A B ls end st (if_typed b span v s)
+  if_typed_run o goes ty span c h u A B ls end st v s true e r = retyped c h u A B ls s _ _ _ (λ h' xs is. (is.0, (e, is.1))) r
+  if_typed_run o goes ty span c h u A B ls end st v s false e r = tt
 
   -- a value is checked against the node's type
-  checked_run : (o : Spot) (ty : TypeTree) (span : Span) (c : Next) (h : List Object) (u A B : ℕ) (ls : List Slot) (end : ℕ) (st : List Slot) (r : Completion) → Run o Represents c h u A B ls end st r → Run o (Typed ty) c h u A B ls end st (then_do r (checked span ty))
-  checked_run o ty span c h u A B ls end st (Gives v s) r = if_typed_run o ty span c h u A B ls end st v s (has_type v ty) refl r
-  checked_run o ty span c h u A B ls end st (Throws x s) r = r
-  checked_run o ty span c h u A B ls end st (Stops s) r = r
-  checked_run o ty span c h u A B ls end st (Breaks at s) r = tt
+  checked_run : (o : Spot) (goes : Bool) (ty : TypeTree) (span : Span) (c : Next) (h : List Object) (u A B : ℕ) (ls : List Slot) (end : ℕ) (st : List Slot) (r : Completion) → Run o (On goes Represents) c h u A B ls end st r → Run o (On goes (Typed ty)) c h u A B ls end st (then_do r (checked span ty))
+  checked_run o goes ty span c h u A B ls end st (Gives v s) r = if_typed_run o goes ty span c h u A B ls end st v s (has_type v ty) refl r
+  checked_run o goes ty span c h u A B ls end st (Throws x s) r = r
+  checked_run o goes ty span c h u A B ls end st (Stops s) r = r
+  checked_run o goes ty span c h u A B ls end st (Breaks at s) r = tt
 
   -- the same with the check
   abbrev pub Checked : ℕ → ℕ → Emitted → (State → Completion) → Type 0
-  Checked d b x f = (s : State) (o : Spot) (at : ℕ) (ls st : List Slot) (h : List Object) → Ready d x s o at ls h → Run o (Typed x.ty) (live o at ls st h s) h s.units factor b ls (at + x.size) st (f s)
+  Checked d b x f = (s : State) (o : Spot) (at : ℕ) (ls st : List Slot) (h : List Object) → Ready d x s o at ls h → Run o (On x.goes_on (Typed x.ty)) (live o at ls st h s) h s.units factor b ls (at + x.size) st (f s)
 
   pub with_check : (d b : ℕ) (x : Emitted) (span : Span) (g : State → Completion) → Inside d b x g → Checked d b x (λ s. then_do (g s) (checked span x.ty))
   with_check d b x span g inside s o at ls st h ready =
-      checked_run o x.ty span (live o at ls st h s) h s.units factor b ls (at + x.size) st (g s) (inside s o at ls st h ready)
+      checked_run o x.goes_on x.ty span (live o at ls st h s) h s.units factor b ls (at + x.size) st (g s) (inside s o at ls st h ready)
 
   -- the node's own unit, before code of any form
   pub enters : (d b : ℕ) (x : Emitted) (ops : List Operation) (rep : Rep) (f : State → Completion) → b + 1 ≤ x.nodes → (s : State) (o : Spot) (at : ℕ) (ls st : List Slot) (h : List Object) (aim : Value → Option ℕ) → ((s1 : State) → Prepared d x ops s1 o at ls h → RunTo o rep (live o at ls st h s1) h s1.units factor b ls aim st (f s1)) → Prepared (suc d) x ops s o at ls h → RunTo o rep (live o at ls st h s) h s.units 0 x.nodes ls aim st (enter s.units s f)
@@ -474,7 +511,7 @@ module _ (set : Set) (S : ℕ) where
 
   pub entered : (d b : ℕ) (x : Emitted) (f : State → Completion) → b + 1 ≤ x.nodes → Checked d b x f → Follows (suc d) x (λ s. enter s.units s f)
   entered d b x f le inside s o at ls st h ready =
-      enters d b x x.code (Typed x.ty) f le s o at ls st h (λ v. Some (at + x.size)) (λ s1 r1. inside s1 o at ls st h r1) ready
+      enters d b x x.code (On x.goes_on (Typed x.ty)) f le s o at ls st h (λ v. Some (at + x.size)) (λ s1 r1. inside s1 o at ls st h r1) ready
 
   -- no depth is left, and so no unit
   pub hangs_none : (x : Emitted) (ops : List Operation) (A : ℕ) (s : State) (o : Spot) (at : ℕ) (ls st : List Slot) (h : List Object) → Prepared zero x ops s o at ls h → Hangs (live o at ls st h s) s.units A x.nodes s
@@ -483,15 +520,21 @@ module _ (set : Set) (S : ℕ) where
 
   -- the second form of the code goes on where the node's value says
   abbrev pub Tests : ℕ → Emitted → (State → Completion) → Type 0
-  Tests d x f = (w : Bool) (n : ℕ) (s : State) (o : Spot) (at : ℕ) (ls st : List Slot) (h : List Object) → Prepared d x (x.test w n) s o at ls h → RunTo o Nothing (live o at ls st h s) h s.units 1 x.nodes ls (aim_of w (at + x.test_size w + n) (at + x.test_size w)) st (f s)
+  Tests d x f = (w : Bool) (n : ℕ) (s : State) (o : Spot) (at : ℕ) (ls st : List Slot) (h : List Object) → Prepared d x (x.test w n) s o at ls h → RunTo o (On x.goes_on Nothing) (live o at ls st h s) h s.units 1 x.nodes ls (aim_of w (at + x.test_size w + n) (at + x.test_size w)) st (f s)
 
-  -- both forms
+  -- the literal true: nothing is run for it
+  abbrev pub Sure : ℕ → Emitted → (State → Completion) → Type 0
+  Sure d x f = x.always ≡ true → (s : State) (o : Spot) (at : ℕ) (ls st : List Slot) (h : List Object) → Prepared d x [] s o at ls h → Run o (On x.goes_on True) (live o at ls st h s) h s.units 0 x.nodes ls at st (f s)
+
+  -- what the code of a node does, in each of its forms
   pub record Acts (d : ℕ) (x : Emitted) (f : State → Completion) : Type 0 where
     pub value : Follows d x f
     pub test : Tests d x f
+    pub sure : Sure d x f
 
   pub acts_none : (x : Emitted) → Acts zero x (λ s. Stops s)
   acts_none x = record {
     value = λ s o at ls st h ready. hangs_none x x.code 0 s o at ls st h ready;
     test = λ w n s o at ls st h ready. hangs_none x (x.test w n) 1 s o at ls st h ready;
+    sure = λ e s o at ls st h ready. hangs_none x [] 0 s o at ls st h ready;
   }

@@ -1,5 +1,5 @@
 -- Compiled code does what its program does: in the bytes that it prints, in how it ends, at every bound.
-use Rattle.std.specs.Prelude.{◌≡◌, ℕ, ◌≤◌, List, [], ◌∷◌, ◌++◌, Some, None, length, slice_get, position, codes}
+use Rattle.std.specs.Prelude.{◌≡◌, ◌≢◌, ℕ, ◌≤◌, List, [], ◌∷◌, ◌++◌, Some, None, length, slice_get, position, codes}
 use Rattle.kc_core.specs.declared.tree.Function.{Function}
 use Rattle.kc_core.specs.declared.tree.Program.{Program}
 use Rattle.kc_core.specs.declared.tree.Span.{Span}
@@ -91,6 +91,10 @@ CompiledAgrees = (set : Set) (program : Program) (main : ℕ) → IsCompiled set
 -- the law of compiled sets: the machine is built for them
 abbrev pub CompiledIsFirstLot : Type 0
 CompiledIsFirstLot = (set : Set) (program : Program) (main : ℕ) → IsCompiled set program main → IsFirstLot set
+
+-- a compiled method has instructions
+abbrev pub CompiledHasCode : Type 0
+CompiledHasCode = (set : Set) (program : Program) (main : ℕ) (c : IsCompiled set program main) → c.method.code ≢ []
 
 -- no built-in class has the name of a source file's class, which ends with `Kt`
 abbrev pub FilesHaveOwnNames : Type 0

@@ -1,6 +1,6 @@
 -- The code of a node: what each instruction of it stands for, with its length in bytes. Which index of the pool an
 -- instruction names isn't said.
-use Rattle.std.specs.Prelude.{◌≡◌, ℕ, zero, suc, ◌+◌, ◌&&◌, List, [], ◌∷◌, ◌++◌, Some, None, Bool, true, false, not, ℤ, pos, negsuc, int_le, nat_lt, if◌then◌else◌, ◌⊎◌, codes}
+use Rattle.std.specs.Prelude.{◌≡◌, ℕ, zero, suc, ◌+◌, ◌&&◌, ◌||◌, List, [], ◌∷◌, ◌++◌, Some, None, Bool, true, false, not, ℤ, pos, negsuc, int_le, nat_lt, if◌then◌else◌, ◌⊎◌, codes}
 use Rattle.kc_core.specs.declared.tree.TypeTree.{TypeTree}
 use Rattle.kc_core.specs.declared.tree.TypeTree.TheVariants as type_is
 use Rattle.kc_core.specs.declared.tree.BinaryOp.{BinaryOp}
@@ -100,15 +100,27 @@ Spells pool at (i ∷ is) (o ∷ os) = StandsFor pool at i o × (length_of i ≡
 Spells pool at _ _ = ⊥
 
 -- What is known of a node's code: the static type of the value that it leaves on the stack, where `Unit` leaves nothing; its
--- length in bytes; how many nodes it stands for; and the operations. Of a Boolean node there is a second form, which leaves
--- nothing: `test w n` goes on n bytes behind its end where the value is w, and at its end where it is not.
+-- length in bytes; how many nodes it stands for; whether it can go on at its end; whether it is the literal true; and the
+-- operations. Of a Boolean node there is a second form, which leaves nothing: `test w n` goes on n bytes behind its end where the
+-- value is w, and at its end where it is not.
 pub record Emitted : Type 0 where
   pub ty : TypeTree
   pub size : ℕ
   pub nodes : ℕ
+  pub goes_on : Bool
+  pub always : Bool
   pub code : List Operation
   pub test_size : Bool → ℕ
   pub test : Bool → ℕ → List Operation
+
+-- What stands behind code that does not go on is not written.
+abbrev pub kept : Bool → List Operation → List Operation
+kept true os = os
+kept false os = []
+
+abbrev pub kept_bytes : Bool → ℕ → ℕ
+kept_bytes true n = n
+kept_bytes false n = 0
 
 abbrev pub operator_of : BinaryOp → Operator
 operator_of Plus = op.Add
@@ -177,14 +189,16 @@ discards type_is.String = Discard ∷ []
 discards type_is.Unit = []
 
 -- Code that leaves its value: a test of it looks at the value.
-abbrev pub plain : TypeTree → ℕ → ℕ → List Operation → Emitted
-plain ty size nodes code = record {
+abbrev pub plain : TypeTree → ℕ → ℕ → Bool → List Operation → Emitted
+plain ty size nodes goes_on code = record {
   ty = ty;
   size = size;
   nodes = nodes;
+  goes_on = goes_on;
+  always = false;
   code = code;
-  test_size = λ w. size + 3;
-  test = λ w n. code ++ JumpIf (truth_test w) (n + 3) ∷ [];
+  test_size = λ w. size + kept_bytes goes_on 3;
+  test = λ w n. code ++ kept goes_on (JumpIf (truth_test w) (n + 3) ∷ []);
 }
 
 -- the two values of a test that goes on 4 bytes behind its end where it is false
@@ -192,51 +206,47 @@ abbrev pub truth : List Operation
 truth = PushInt (pos 1) ∷ Jump (pos 4) ∷ PushInt (pos 0) ∷ []
 
 -- Code that tests: its value is made of what the test comes to.
-abbrev pub testing : TypeTree → ℕ → (Bool → ℕ) → (Bool → ℕ → List Operation) → Emitted
-testing ty nodes test_size test = record {
+abbrev pub testing : TypeTree → ℕ → Bool → (Bool → ℕ) → (Bool → ℕ → List Operation) → Emitted
+testing ty nodes goes_on test_size test = record {
   ty = ty;
-  size = test_size false + 5;
+  size = test_size false + kept_bytes goes_on 5;
   nodes = nodes;
-  code = test false 4 ++ truth;
+  goes_on = goes_on;
+  always = false;
+  code = test false 4 ++ kept goes_on truth;
   test_size = test_size;
   test = test;
 }
 
 -- code without children
 abbrev pub leaf : List Operation → TypeTree → Emitted
-leaf os ty = plain ty (bytes os) 1 os
+leaf os ty = plain ty (bytes os) 1 true os
 
 -- a literal
-abbrev pub constant_test : Bool → Bool → ℕ → List Operation
-constant_test true true n = Jump (pos (n + 3)) ∷ []
-constant_test false false n = Jump (pos (n + 3)) ∷ []
-constant_test _ _ n = []
-
 abbrev pub truth_code : Bool → TypeTree → Emitted
-truth_code b ty = record {
-  ty = ty;
-  size = 1;
-  nodes = 1;
-  code = PushInt (bit b) ∷ [];
-  test_size = λ w. bytes (constant_test b w 0);
-  test = constant_test b;
-}
+truth_code b ty = record (leaf (PushInt (bit b) ∷ []) ty) { always = b }
 
 -- a child, and operations that take its value
 abbrev pub then_code : Emitted → List Operation → TypeTree → Emitted
-then_code a tail ty = plain ty (a.size + bytes tail) (1 + a.nodes) (a.code ++ tail)
+then_code a tail ty = plain ty (a.size + kept_bytes a.goes_on (bytes tail)) (1 + a.nodes) a.goes_on (a.code ++ kept a.goes_on tail)
 
 -- two children, and operations that take their values
+abbrev pub two_ops : Emitted → Emitted → List Operation → List Operation
+two_ops a b tail = a.code ++ kept a.goes_on (b.code ++ kept b.goes_on tail)
+
+abbrev pub two_bytes : Emitted → Emitted → ℕ → ℕ
+two_bytes a b n = a.size + kept_bytes a.goes_on (b.size + kept_bytes b.goes_on n)
+
 abbrev pub two_code : Emitted → Emitted → List Operation → TypeTree → Emitted
-two_code a b tail ty = plain ty (a.size + b.size + bytes tail) (1 + a.nodes + b.nodes) (a.code ++ (b.code ++ tail))
+two_code a b tail ty = plain ty (two_bytes a b (bytes tail)) (1 + a.nodes + b.nodes) (a.goes_on && b.goes_on) (two_ops a b tail)
 
 -- two children, and a test of their values
 abbrev pub compared : Emitted → Emitted → (Bool → Test) → TypeTree → Emitted
 compared a b test ty =
-    testing ty (1 + a.nodes + b.nodes) (λ w. a.size + b.size + 3) (λ w n. a.code ++ (b.code ++ JumpCompare (test w) (n + 3) ∷ []))
+    testing ty (1 + a.nodes + b.nodes) (a.goes_on && b.goes_on) (λ w. two_bytes a b 3) (λ w n. two_ops a b (JumpCompare (test w) (n + 3) ∷ []))
 
 abbrev pub negated : Emitted → TypeTree → Emitted
-negated a ty = testing ty (1 + a.nodes) (λ w. a.test_size (not w)) (λ w. a.test (not w))
+negated a ty = testing ty (1 + a.nodes) a.goes_on (λ w. a.test_size (not w)) (λ w. a.test (not w))
 
 -- how far behind the end of the second side the first side goes on where it decides the whole, if that is w
 abbrev pub decided : Bool → Bool → ℕ → ℕ
@@ -244,22 +254,29 @@ decided true true n = n
 decided false false n = n
 decided _ _ n = 0
 
--- two sides, of which the first one decides where it is k
+-- Two sides, of which the first one decides where it is k; so the whole goes on where the first side does.
 abbrev pub short : Bool → Emitted → Emitted → TypeTree → Emitted
 short k a b ty =
-    testing ty (1 + a.nodes + b.nodes) (λ w. a.test_size k + b.test_size w) (λ w n. a.test k (b.test_size w + decided k w n) ++ b.test w n)
+    testing ty (1 + a.nodes + b.nodes) a.goes_on (λ w. a.test_size k + kept_bytes a.goes_on (b.test_size w))
+    (λ w n. a.test k (b.test_size w + decided k w n) ++ kept a.goes_on (b.test w n))
 
 -- several children, and what stands behind the first ones and behind the last one
 pub record Several : Type 0 where
   pub size : ℕ
   pub nodes : ℕ
+  pub goes_on : Bool
   pub code : List Operation
 
 abbrev pub nothing : Several
-nothing = record { size = 0; nodes = 0; code = [] }
+nothing = record { size = 0; nodes = 0; goes_on = true; code = [] }
 
 abbrev pub followed : Emitted → List Operation → Several → Several
-followed e between more = record { size = e.size + bytes between + more.size; nodes = e.nodes + more.nodes; code = e.code ++ (between ++ more.code) }
+followed e between more = record {
+  size = e.size + kept_bytes e.goes_on (bytes between + more.size);
+  nodes = e.nodes + more.nodes;
+  goes_on = e.goes_on && more.goes_on;
+  code = e.code ++ kept e.goes_on (between ++ more.code);
+}
 
 -- the parts of a text behind the first, each put behind what stands there
 abbrev pub further_texts : List Emitted → Several
@@ -267,7 +284,7 @@ further_texts [] = nothing
 further_texts (e ∷ es) = followed e (to_text e.ty ++ Call helper.TextsConcat ∷ []) (further_texts es)
 
 abbrev pub texts : List Emitted → Several
-texts [] = record { size = 3; nodes = 0; code = PushText [] ∷ [] }
+texts [] = record { size = 3; nodes = 0; goes_on = true; code = PushText [] ∷ [] }
 texts (e ∷ es) = followed e (to_text e.ty) (further_texts es)
 
 -- all values onto the stack
@@ -282,27 +299,53 @@ in_turn (e ∷ []) = followed e [] nothing
 in_turn (e ∷ f ∷ es) = followed e (discards e.ty) (in_turn (f ∷ es))
 
 abbrev pub whole : Several → List Operation → TypeTree → Emitted
-whole s tail ty = plain ty (s.size + bytes tail) (1 + s.nodes) (s.code ++ tail)
+whole s tail ty = plain ty (s.size + kept_bytes s.goes_on (bytes tail)) (1 + s.nodes) s.goes_on (s.code ++ kept s.goes_on tail)
 
--- code that runs where a test holds
+-- A condition: where it does not hold, it goes on so many bytes behind its end. The literal true needs no code.
+abbrev pub condition : Emitted → ℕ → List Operation
+condition c n = if c.always then [] else c.test false n
+
+abbrev pub condition_size : Emitted → ℕ
+condition_size c = if c.always then 0 else c.test_size false
+
+-- code that runs where a condition holds
 abbrev pub if_code : Emitted → Emitted → TypeTree → Emitted
-if_code c a ty = plain ty (c.test_size false + a.size) (1 + c.nodes + a.nodes) (c.test false a.size ++ a.code)
+if_code c a ty =
+    plain ty (condition_size c + kept_bytes c.goes_on a.size) (1 + c.nodes + a.nodes) (if c.always then a.goes_on else c.goes_on)
+    (condition c a.size ++ kept c.goes_on a.code)
 
--- one code where a test holds, and another where it does not
+-- the jump over the code for the other way
+abbrev pub over : Emitted → ℕ → List Operation
+over a n = kept a.goes_on (Jump (pos (n + 3)) ∷ [])
+
+abbrev pub over_size : Emitted → ℕ
+over_size a = kept_bytes a.goes_on 3
+
+-- one code where a condition holds, and another where it does not
+abbrev pub either_ops : Emitted → Emitted → Emitted → List Operation
+either_ops c a b = c.test false (a.size + over_size a) ++ kept c.goes_on (a.code ++ (over a b.size ++ b.code))
+
+abbrev pub either_bytes : Emitted → Emitted → Emitted → ℕ
+either_bytes c a b = c.test_size false + kept_bytes c.goes_on (a.size + over_size a + b.size)
+
+-- Where the condition is the literal true, there is no other way.
 abbrev pub if_else_code : Emitted → Emitted → Emitted → TypeTree → Emitted
 if_else_code c a b ty =
-    plain ty (c.test_size false + a.size + 3 + b.size) (1 + c.nodes + a.nodes + b.nodes)
-    (c.test false (a.size + 3) ++ (a.code ++ Jump (pos (b.size + 3)) ∷ b.code))
+    plain ty (if c.always then a.size else either_bytes c a b) (1 + c.nodes + a.nodes + b.nodes) (if c.always then a.goes_on else c.goes_on && (a.goes_on || b.goes_on))
+    (if c.always then a.code else either_ops c a b)
 
--- the body of a loop without the jump back
-abbrev pub turn_size : Emitted → ℕ
-turn_size a = a.size + bytes (discards a.ty)
+-- the jump back of a loop whose turn has so many bytes
+abbrev pub returns : Emitted → ℕ → List Operation
+returns a n = kept a.goes_on (discards a.ty ++ Jump (back n) ∷ [])
 
--- code that runs as long as a test holds
+abbrev pub body_size : Emitted → ℕ
+body_size a = a.size + kept_bytes a.goes_on (bytes (discards a.ty) + 3)
+
+-- code that runs as long as a condition holds: so a loop goes on where its condition can fail
 abbrev pub while_code : Emitted → Emitted → TypeTree → Emitted
 while_code c a ty =
-    plain ty (c.test_size false + turn_size a + 3) (1 + c.nodes + a.nodes)
-    (c.test false (turn_size a + 3) ++ (a.code ++ (discards a.ty ++ Jump (back (c.test_size false + turn_size a)) ∷ [])))
+    plain ty (condition_size c + kept_bytes c.goes_on (body_size a)) (1 + c.nodes + a.nodes) (c.goes_on && not c.always)
+    (condition c (body_size a) ++ kept c.goes_on (a.code ++ returns a (condition_size c + a.size + bytes (discards a.ty))))
 
 -- the code of a node, by its kind and its static type, from its children's
 abbrev pub kind_code : Kind-F (TypeTree → Emitted) Emitted → TypeTree → Emitted
@@ -335,4 +378,4 @@ code_of e = fold-Core (TypeTree → Emitted) Emitted kind_code core_code e
 
 -- a body's code, and the return behind it
 abbrev pub body_code : Core → List Operation
-body_code body = (code_of body).code ++ (discards body.ty ++ Leave ∷ [])
+body_code body = (code_of body).code ++ kept (code_of body).goes_on (discards body.ty ++ Leave ∷ [])

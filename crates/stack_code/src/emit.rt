@@ -1,13 +1,15 @@
 //! The code of a tree.
 
-ghost use Rattle.std.specs.Prelude.{◌≡◌, ◌+◌, ◌++◌, ◌∷◌, [], map, false, OnOk, pos};
-ghost use Rattle.stack_code.specs.Code.{code_of, Compute, Negate, Call, Jump, JumpIf, JumpCompare, operator_of, truth_test, constant_test, decided, discards, back, turn_size, then_code, two_code, whole, texts, values, in_turn, stores};
+ghost use Rattle.std.specs.Prelude.{◌≡◌, ◌+◌, ◌++◌, ◌∷◌, ◌&&◌, ◌||◌, [], map, not, false, if◌then◌else◌, IfOk, OnOk};
+ghost use Rattle.stack_code.specs.Code.{code_of, kept, two_ops, Compute, Negate, Call, JumpIf, JumpCompare, operator_of, truth_test, truth, bytes, decided, discards, condition, condition_size, either_ops, body_size, returns, texts, values, in_turn, stores};
 ghost use Rattle.class_file.specs.Pools.{Slots};
 ghost use Rattle.stack_code.specs.Emission.{Emits};
 ghost use Rattle.stack_code.specs.declared.constants.Helper.TheVariants as helper;
 
 use crate::constants::{Helper, TooLarge};
-use crate::measures::{measure_turn, plus, test_length, value_length};
+use crate::measures::{
+    body_length, condition_length, discard_size, is_true, measure_of, over_length, plus,
+};
 use crate::operations::{
     between, call, compute, discard, equal_test, join, jump, jump_back, jump_compare, jump_if,
     load, negate, push_bool, push_int, push_text, push_truth, store, test_of,
@@ -15,39 +17,44 @@ use crate::operations::{
 use class_file::instr::Instr;
 use class_file::pool::Pool;
 use class_file::row::Test;
-use kc_core::tree::{Core, Kind, Native, UnaryOp};
+use kc_core::tree::{BinaryOp, Core, Kind, Native, UnaryOp};
 use kc_text::{Fail, Text};
 use std::alloc::Global;
 
+// A child's code, and what takes its value.
 #[cycle(emit)]
-#[tactic(auto, using(crate::proofs::Emitting::emits_then, crate::proofs::Nodes::type_of_code))]
-fn emit_declare(
+fn emit_stored(
     alloc: Global,
     pool: &mut Pool,
     code: &mut Vec<Instr>,
     local: usize,
     value: &Core,
-) -> Result<(), Fail<TooLarge>>
-    ensures { OnOk result (Emits code.old.items code.new.items pool.old pool.new ((code_of value.now).code ++ stores value.now.ty local)) }
+) -> Result<bool, Fail<TooLarge>>
+    ensures goes { IfOk result (λ goes. goes ≡ (code_of value.now).goes_on) }
+    ensures emits { OnOk result (Emits code.old.items code.new.items pool.old pool.new ((code_of value.now).code ++ kept (code_of value.now).goes_on (stores value.now.ty local))) }
 {
-    emit(alloc, pool, code, value)?;
-    store(code, value.ty, local)?;
-    Ok(())
+    let goes = emit(alloc, pool, code, value)?;
+    if goes {
+        store(code, value.ty, local)?;
+    }
+    Ok(goes)
 }
 
 #[cycle(emit)]
-#[tactic(auto, using(crate::proofs::Emitting::emits_then))]
 fn emit_negate(
     alloc: Global,
     pool: &mut Pool,
     code: &mut Vec<Instr>,
     value: &Core,
-) -> Result<(), Fail<TooLarge>>
-    ensures { OnOk result (Emits code.old.items code.new.items pool.old pool.new ((code_of value.now).code ++ (Negate ∷ []))) }
+) -> Result<bool, Fail<TooLarge>>
+    ensures goes { IfOk result (λ goes. goes ≡ (code_of value.now).goes_on) }
+    ensures emits { OnOk result (Emits code.old.items code.new.items pool.old pool.new ((code_of value.now).code ++ kept (code_of value.now).goes_on (Negate ∷ []))) }
 {
-    emit(alloc, pool, code, value)?;
-    negate(code)?;
-    Ok(())
+    let goes = emit(alloc, pool, code, value)?;
+    if goes {
+        negate(code)?;
+    }
+    Ok(goes)
 }
 
 // A text's first part stays as it is; each other one is put behind what stands there.
@@ -57,18 +64,22 @@ fn emit_texts(
     pool: &mut Pool,
     code: &mut Vec<Instr>,
     parts: &[Core],
-) -> Result<(), Fail<TooLarge>>
-    ensures { OnOk result (Emits code.old.items code.new.items pool.old pool.new (texts (map code_of parts.now)).code) }
+) -> Result<bool, Fail<TooLarge>>
+    ensures goes { IfOk result (λ goes. goes ≡ (texts (map code_of parts.now)).goes_on) }
+    ensures emits { OnOk result (Emits code.old.items code.new.items pool.old pool.new (texts (map code_of parts.now)).code) }
 {
     if parts.is_empty() {
         let empty = Text::new(alloc);
-        return push_text(alloc, pool, code, &empty);
+        push_text(alloc, pool, code, &empty)?;
+        return Ok(true);
     }
     for (i, part) in parts.iter().enumerate() {
-        emit(alloc, pool, code, part)?;
+        if !emit(alloc, pool, code, part)? {
+            return Ok(false);
+        }
         join(alloc, pool, code, part.ty, i == 0)?;
     }
-    Ok(())
+    Ok(true)
 }
 
 #[cycle(emit)]
@@ -77,13 +88,16 @@ fn emit_values(
     pool: &mut Pool,
     code: &mut Vec<Instr>,
     arguments: &[Core],
-) -> Result<(), Fail<TooLarge>>
-    ensures { OnOk result (Emits code.old.items code.new.items pool.old pool.new (values (map code_of arguments.now)).code) }
+) -> Result<bool, Fail<TooLarge>>
+    ensures goes { IfOk result (λ goes. goes ≡ (values (map code_of arguments.now)).goes_on) }
+    ensures emits { OnOk result (Emits code.old.items code.new.items pool.old pool.new (values (map code_of arguments.now)).code) }
 {
     for value in arguments {
-        emit(alloc, pool, code, value)?;
+        if !emit(alloc, pool, code, value)? {
+            return Ok(false);
+        }
     }
-    Ok(())
+    Ok(true)
 }
 
 // All values but the last one's are dropped.
@@ -93,30 +107,37 @@ fn emit_in_turn(
     pool: &mut Pool,
     code: &mut Vec<Instr>,
     parts: &[Core],
-) -> Result<(), Fail<TooLarge>>
-    ensures { OnOk result (Emits code.old.items code.new.items pool.old pool.new (in_turn (map code_of parts.now)).code) }
+) -> Result<bool, Fail<TooLarge>>
+    ensures goes { IfOk result (λ goes. goes ≡ (in_turn (map code_of parts.now)).goes_on) }
+    ensures emits { OnOk result (Emits code.old.items code.new.items pool.old pool.new (in_turn (map code_of parts.now)).code) }
 {
     for (i, part) in parts.iter().enumerate() {
-        emit(alloc, pool, code, part)?;
+        if !emit(alloc, pool, code, part)? {
+            return Ok(false);
+        }
         between(code, part.ty, i + 1 == parts.len())?;
     }
-    Ok(())
+    Ok(true)
 }
 
 #[cycle(emit)]
-#[tactic(auto, using(crate::proofs::Emitting::emits_then))]
 fn emit_native(
     alloc: Global,
     pool: &mut Pool,
     code: &mut Vec<Instr>,
     arguments: &[Core],
-) -> Result<(), Fail<TooLarge>>
-    ensures { OnOk result (Emits code.old.items code.new.items pool.old pool.new ((values (map code_of arguments.now)).code ++ (Call helper.ConsoleWrite ∷ []))) }
+) -> Result<bool, Fail<TooLarge>>
+    ensures goes { IfOk result (λ goes. goes ≡ (values (map code_of arguments.now)).goes_on) }
+    ensures emits { OnOk result (Emits code.old.items code.new.items pool.old pool.new ((values (map code_of arguments.now)).code ++ kept (values (map code_of arguments.now)).goes_on (Call helper.ConsoleWrite ∷ []))) }
 {
-    emit_values(alloc, pool, code, arguments)?;
-    call(alloc, pool, code, Helper::ConsoleWrite)
+    let goes = emit_values(alloc, pool, code, arguments)?;
+    if goes {
+        call(alloc, pool, code, Helper::ConsoleWrite)?;
+    }
+    Ok(goes)
 }
 
+// Two children. It goes on where both do.
 #[cycle(emit)]
 fn emit_two(
     alloc: Global,
@@ -124,12 +145,34 @@ fn emit_two(
     code: &mut Vec<Instr>,
     left: &Core,
     right: &Core,
-) -> Result<(), Fail<TooLarge>>
-    ensures { OnOk result (Emits code.old.items code.new.items pool.old pool.new ((code_of left.now).code ++ (code_of right.now).code)) }
+) -> Result<bool, Fail<TooLarge>>
+    ensures goes { IfOk result (λ goes. goes ≡ ((code_of left.now).goes_on && (code_of right.now).goes_on)) }
+    ensures emits { OnOk result (Emits code.old.items code.new.items pool.old pool.new ((code_of left.now).code ++ kept (code_of left.now).goes_on (code_of right.now).code)) }
 {
-    emit(alloc, pool, code, left)?;
-    emit(alloc, pool, code, right)?;
-    Ok(())
+    if !emit(alloc, pool, code, left)? {
+        return Ok(false);
+    }
+    let goes = emit(alloc, pool, code, right)?;
+    Ok(goes)
+}
+
+#[cycle(emit)]
+fn emit_binary(
+    alloc: Global,
+    pool: &mut Pool,
+    code: &mut Vec<Instr>,
+    op: BinaryOp,
+    left: &Core,
+    right: &Core,
+) -> Result<bool, Fail<TooLarge>>
+    ensures goes { IfOk result (λ goes. goes ≡ ((code_of left.now).goes_on && (code_of right.now).goes_on)) }
+    ensures emits { OnOk result (Emits code.old.items code.new.items pool.old pool.new (two_ops (code_of left.now) (code_of right.now) (Compute (operator_of op) ∷ []))) }
+{
+    let goes = emit_two(alloc, pool, code, left, right)?;
+    if goes {
+        compute(code, op)?;
+    }
+    Ok(goes)
 }
 
 // Two Ints, and a jump where they pass the test.
@@ -142,12 +185,15 @@ fn emit_compared(
     right: &Core,
     test: Test,
     beyond: u32,
-) -> Result<(), Fail<TooLarge>>
-    ensures { OnOk result (Emits code.old.items code.new.items pool.old pool.new ((code_of left.now).code ++ ((code_of right.now).code ++ JumpCompare test (beyond + 3) ∷ []))) }
+) -> Result<bool, Fail<TooLarge>>
+    ensures goes { IfOk result (λ goes. goes ≡ ((code_of left.now).goes_on && (code_of right.now).goes_on)) }
+    ensures emits { OnOk result (Emits code.old.items code.new.items pool.old pool.new (two_ops (code_of left.now) (code_of right.now) (JumpCompare test (beyond + 3) ∷ []))) }
 {
-    emit_two(alloc, pool, code, left, right)?;
-    jump_compare(code, test, beyond)?;
-    Ok(())
+    let goes = emit_two(alloc, pool, code, left, right)?;
+    if goes {
+        jump_compare(code, test, beyond)?;
+    }
+    Ok(goes)
 }
 
 // Where the side that decides has the value that is tested, it goes on behind the whole.
@@ -171,32 +217,19 @@ fn emit_short(
     right: &Core,
     when: bool,
     beyond: u32,
-) -> Result<(), Fail<TooLarge>>
-    ensures { OnOk result (Emits code.old.items code.new.items pool.old pool.new ((code_of left.now).test decisive ((code_of right.now).test_size when + decided decisive when beyond) ++ (code_of right.now).test when beyond)) }
+) -> Result<bool, Fail<TooLarge>>
+    ensures goes { IfOk result (λ goes. goes ≡ (code_of left.now).goes_on) }
+    ensures emits { OnOk result (Emits code.old.items code.new.items pool.old pool.new ((code_of left.now).test decisive ((code_of right.now).test_size when + decided decisive when beyond) ++ kept (code_of left.now).goes_on ((code_of right.now).test when beyond))) }
 {
     let over = plus(
-        test_length(right, when)?,
+        measure_of(right)?.when(when),
         beyond_whole(decisive, when, beyond),
     )?;
-    emit_test(alloc, pool, code, left, decisive, over)?;
-    emit_test(alloc, pool, code, right, when, beyond)?;
-    Ok(())
-}
-
-// A jump on a literal is made or not.
-fn emit_constant(
-    code: &mut Vec<Instr>,
-    value: bool,
-    when: bool,
-    beyond: u32,
-) -> Result<(), Fail<TooLarge>>
-    ensures { OnOk result ((pool : Slots) → Emits code.old.items code.new.items pool pool (constant_test value when beyond)) }
-{
-    if value == when {
-        jump(code, beyond)
-    } else {
-        Ok(())
+    let goes = emit_test(alloc, pool, code, left, decisive, over)?;
+    if goes {
+        emit_test(alloc, pool, code, right, when, beyond)?;
     }
+    Ok(goes)
 }
 
 #[cycle(emit)]
@@ -207,12 +240,34 @@ fn emit_plain_test(
     node: &Core,
     when: bool,
     beyond: u32,
-) -> Result<(), Fail<TooLarge>>
-    ensures { OnOk result (Emits code.old.items code.new.items pool.old pool.new ((code_of node.now).code ++ JumpIf (truth_test when) (beyond + 3) ∷ [])) }
+) -> Result<bool, Fail<TooLarge>>
+    ensures goes { IfOk result (λ goes. goes ≡ (code_of node.now).goes_on) }
+    ensures emits { OnOk result (Emits code.old.items code.new.items pool.old pool.new ((code_of node.now).code ++ kept (code_of node.now).goes_on (JumpIf (truth_test when) (beyond + 3) ∷ []))) }
 {
-    emit(alloc, pool, code, node)?;
-    jump_if(code, when, beyond)?;
-    Ok(())
+    let goes = emit(alloc, pool, code, node)?;
+    if goes {
+        jump_if(code, when, beyond)?;
+    }
+    Ok(goes)
+}
+
+// A condition: where it does not hold, it goes on so many bytes behind its end.
+#[cycle(emit)]
+fn emit_condition(
+    alloc: Global,
+    pool: &mut Pool,
+    code: &mut Vec<Instr>,
+    test: &Core,
+    beyond: u32,
+) -> Result<bool, Fail<TooLarge>>
+    ensures goes { IfOk result (λ goes. goes ≡ (code_of test.now).goes_on) }
+    ensures emits { OnOk result (Emits code.old.items code.new.items pool.old pool.new (condition (code_of test.now) beyond)) }
+{
+    if is_true(test) {
+        return Ok(true);
+    }
+    let goes = emit_test(alloc, pool, code, test, false, beyond)?;
+    Ok(goes)
 }
 
 #[cycle(emit)]
@@ -222,15 +277,44 @@ fn emit_if(
     code: &mut Vec<Instr>,
     test: &Core,
     held: &Core,
-) -> Result<(), Fail<TooLarge>>
-    ensures { OnOk result (Emits code.old.items code.new.items pool.old pool.new ((code_of test.now).test false (code_of held.now).size ++ (code_of held.now).code)) }
+) -> Result<bool, Fail<TooLarge>>
+    ensures goes { IfOk result (λ goes. goes ≡ (if (code_of test.now).always then (code_of held.now).goes_on else (code_of test.now).goes_on)) }
+    ensures emits { OnOk result (Emits code.old.items code.new.items pool.old pool.new (condition (code_of test.now) (code_of held.now).size ++ kept (code_of test.now).goes_on (code_of held.now).code)) }
 {
-    let over = value_length(held)?;
-    emit_test(alloc, pool, code, test, false, over)?;
-    emit(alloc, pool, code, held)?;
-    Ok(())
+    let over = measure_of(held)?.value;
+    if !emit_condition(alloc, pool, code, test, over)? {
+        return Ok(false);
+    }
+    let goes = emit(alloc, pool, code, held)?;
+    Ok(if is_true(test) { goes } else { true })
 }
 
+// Both ways of a choice.
+#[cycle(emit)]
+fn emit_either(
+    alloc: Global,
+    pool: &mut Pool,
+    code: &mut Vec<Instr>,
+    test: &Core,
+    held: &Core,
+    failed: &Core,
+) -> Result<bool, Fail<TooLarge>>
+    ensures goes { IfOk result (λ goes. goes ≡ ((code_of test.now).goes_on && ((code_of held.now).goes_on || (code_of failed.now).goes_on))) }
+    ensures emits { OnOk result (Emits code.old.items code.new.items pool.old pool.new (either_ops (code_of test.now) (code_of held.now) (code_of failed.now))) }
+{
+    let over_held = over_length(measure_of(held)?)?;
+    if !emit_test(alloc, pool, code, test, false, over_held)? {
+        return Ok(false);
+    }
+    let first = emit(alloc, pool, code, held)?;
+    if first {
+        jump(code, measure_of(failed)?.value)?;
+    }
+    let second = emit(alloc, pool, code, failed)?;
+    Ok(first || second)
+}
+
+// Where the condition is the literal true, there is no other way.
 #[cycle(emit)]
 fn emit_if_else(
     alloc: Global,
@@ -239,16 +323,16 @@ fn emit_if_else(
     test: &Core,
     held: &Core,
     failed: &Core,
-) -> Result<(), Fail<TooLarge>>
-    ensures { OnOk result (Emits code.old.items code.new.items pool.old pool.new ((code_of test.now).test false ((code_of held.now).size + 3) ++ ((code_of held.now).code ++ Jump (pos ((code_of failed.now).size + 3)) ∷ (code_of failed.now).code))) }
+) -> Result<bool, Fail<TooLarge>>
+    ensures goes { IfOk result (λ goes. goes ≡ (if (code_of test.now).always then (code_of held.now).goes_on else (code_of test.now).goes_on && ((code_of held.now).goes_on || (code_of failed.now).goes_on))) }
+    ensures emits { OnOk result (Emits code.old.items code.new.items pool.old pool.new (if (code_of test.now).always then (code_of held.now).code else either_ops (code_of test.now) (code_of held.now) (code_of failed.now))) }
 {
-    let over_held = plus(value_length(held)?, 3)?;
-    let over_failed = value_length(failed)?;
-    emit_test(alloc, pool, code, test, false, over_held)?;
-    emit(alloc, pool, code, held)?;
-    jump(code, over_failed)?;
-    emit(alloc, pool, code, failed)?;
-    Ok(())
+    let goes = if is_true(test) {
+        emit(alloc, pool, code, held)?
+    } else {
+        emit_either(alloc, pool, code, test, held, failed)?
+    };
+    Ok(goes)
 }
 
 #[cycle(emit)]
@@ -258,17 +342,35 @@ fn emit_while(
     code: &mut Vec<Instr>,
     test: &Core,
     body: &Core,
-) -> Result<(), Fail<TooLarge>>
-    ensures { OnOk result (Emits code.old.items code.new.items pool.old pool.new ((code_of test.now).test false (turn_size (code_of body.now) + 3) ++ ((code_of body.now).code ++ (discards body.now.ty ++ Jump (back ((code_of test.now).test_size false + turn_size (code_of body.now))) ∷ [])))) }
+) -> Result<bool, Fail<TooLarge>>
+    ensures goes { IfOk result (λ goes. goes ≡ ((code_of test.now).goes_on && not (code_of test.now).always)) }
+    ensures emits { OnOk result (Emits code.old.items code.new.items pool.old pool.new (condition (code_of test.now) (body_size (code_of body.now)) ++ kept (code_of test.now).goes_on ((code_of body.now).code ++ returns (code_of body.now) (condition_size (code_of test.now) + (code_of body.now).size + bytes (discards (code_of body.now).ty))))) }
 {
-    let turn = measure_turn(body)?;
-    let whole = plus(test_length(test, false)?, turn)?;
-    let over = plus(turn, 3)?;
-    emit_test(alloc, pool, code, test, false, over)?;
-    emit(alloc, pool, code, body)?;
-    discard(code, body.ty)?;
-    jump_back(code, whole)?;
-    Ok(())
+    let turn = measure_of(body)?;
+    let whole = plus(
+        plus(condition_length(test, measure_of(test)?), turn.value)?,
+        discard_size(body.ty),
+    )?;
+    let over = body_length(turn, body.ty)?;
+    if !emit_condition(alloc, pool, code, test, over)? {
+        return Ok(false);
+    }
+    if emit(alloc, pool, code, body)? {
+        discard(code, body.ty)?;
+        jump_back(code, whole)?;
+    }
+    Ok(!is_true(test))
+}
+
+// The value of what a test comes to.
+fn truth_behind(code: &mut Vec<Instr>, goes: bool) -> Result<bool, Fail<TooLarge>>
+    ensures goes { IfOk result (λ g. g ≡ goes) }
+    ensures emits { OnOk result ((pool : Slots) → Emits code.old.items code.new.items pool pool (kept goes truth)) }
+{
+    if goes {
+        push_truth(code)?;
+    }
+    Ok(goes)
 }
 
 /// Puts the second form of a node's code behind the code that is there: it leaves nothing on the stack, and goes on `beyond` bytes
@@ -282,11 +384,11 @@ pub fn emit_test(
     node: &Core,
     when: bool,
     beyond: u32,
-) -> Result<(), Fail<TooLarge>>
-    ensures { OnOk result (Emits code.old.items code.new.items pool.old pool.new ((code_of node.now).test when beyond)) }
+) -> Result<bool, Fail<TooLarge>>
+    ensures goes { IfOk result (λ goes. goes ≡ (code_of node.now).goes_on) }
+    ensures emits { OnOk result (Emits code.old.items code.new.items pool.old pool.new ((code_of node.now).test when beyond)) }
 {
     match &node.kind {
-        Kind::BoolLit(value) => emit_constant(code, *value, when, beyond),
         Kind::NumCompare { order, left, right } => emit_compared(
             alloc,
             pool,
@@ -328,6 +430,7 @@ pub fn emit_test(
         ),
         Kind::IntLit(_)
         | Kind::StrLit(_)
+        | Kind::BoolLit(_)
         | Kind::LocalRead(_)
         | Kind::LocalWrite { .. }
         | Kind::Declare { .. }
@@ -349,38 +452,45 @@ pub fn emit(
     pool: &mut Pool,
     code: &mut Vec<Instr>,
     node: &Core,
-) -> Result<(), Fail<TooLarge>>
-    ensures { OnOk result (Emits code.old.items code.new.items pool.old pool.new (code_of node.now).code) }
+) -> Result<bool, Fail<TooLarge>>
+    ensures goes { IfOk result (λ goes. goes ≡ (code_of node.now).goes_on) }
+    ensures emits { OnOk result (Emits code.old.items code.new.items pool.old pool.new (code_of node.now).code) }
 {
     match &node.kind {
-        Kind::IntLit(n) => push_int(pool, code, *n),
-        Kind::StrLit(text) => push_text(alloc, pool, code, text),
+        Kind::IntLit(n) => {
+            push_int(pool, code, *n)?;
+            Ok(true)
+        }
+        Kind::StrLit(text) => {
+            push_text(alloc, pool, code, text)?;
+            Ok(true)
+        }
         Kind::BoolLit(value) => {
             push_bool(code, *value)?;
-            Ok(())
+            Ok(true)
         }
-        Kind::LocalRead(local) => load(code, node.ty, *local),
-        Kind::LocalWrite { local, value } => emit_declare(alloc, pool, code, *local, value.get()),
+        Kind::LocalRead(local) => {
+            load(code, node.ty, *local)?;
+            Ok(true)
+        }
+        Kind::LocalWrite { local, value } => emit_stored(alloc, pool, code, *local, value.get()),
         Kind::Declare {
             local: _,
             value: None,
-        } => Ok(()),
+        } => Ok(true),
         Kind::Declare {
             local,
             value: Some(value),
-        } => emit_declare(alloc, pool, code, *local, value.get()),
+        } => emit_stored(alloc, pool, code, *local, value.get()),
         Kind::NumBinary { op, left, right } => {
-            emit(alloc, pool, code, left.get())?;
-            emit(alloc, pool, code, right.get())?;
-            compute(code, *op)?;
-            Ok(())
+            emit_binary(alloc, pool, code, *op, left.get(), right.get())
         }
         Kind::NumUnary {
             op: UnaryOp::Minus,
             value,
         } => emit_negate(alloc, pool, code, value.get()),
         Kind::NumCompare { order, left, right } => {
-            emit_compared(
+            let goes = emit_compared(
                 alloc,
                 pool,
                 code,
@@ -389,11 +499,10 @@ pub fn emit(
                 test_of(*order, false),
                 4,
             )?;
-            push_truth(code)?;
-            Ok(())
+            truth_behind(code, goes)
         }
         Kind::Equal { left, right } => {
-            emit_compared(
+            let goes = emit_compared(
                 alloc,
                 pool,
                 code,
@@ -402,23 +511,19 @@ pub fn emit(
                 equal_test(false),
                 4,
             )?;
-            push_truth(code)?;
-            Ok(())
+            truth_behind(code, goes)
         }
         Kind::Not(value) => {
-            emit_test(alloc, pool, code, value.get(), true, 4)?;
-            push_truth(code)?;
-            Ok(())
+            let goes = emit_test(alloc, pool, code, value.get(), true, 4)?;
+            truth_behind(code, goes)
         }
         Kind::And { left, right } => {
-            emit_short(alloc, pool, code, false, left.get(), right.get(), false, 4)?;
-            push_truth(code)?;
-            Ok(())
+            let goes = emit_short(alloc, pool, code, false, left.get(), right.get(), false, 4)?;
+            truth_behind(code, goes)
         }
         Kind::Or { left, right } => {
-            emit_short(alloc, pool, code, true, left.get(), right.get(), false, 4)?;
-            push_truth(code)?;
-            Ok(())
+            let goes = emit_short(alloc, pool, code, true, left.get(), right.get(), false, 4)?;
+            truth_behind(code, goes)
         }
         Kind::Concat(parts) => emit_texts(alloc, pool, code, parts.as_slice()),
         Kind::CallNative {

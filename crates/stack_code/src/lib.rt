@@ -2,6 +2,7 @@
 #![tactic(auto)]
 
 pub mod constants;
+pub mod depth;
 pub mod emit;
 pub mod instructions;
 pub mod measures;

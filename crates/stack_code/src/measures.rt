@@ -1,19 +1,41 @@
 //! How long the code of a node is, before any of it is there: a jump over it is written first.
 
-ghost use Rattle.std.specs.Prelude.{◌≡◌, ◌+◌, map, true, false, IfOk};
-ghost use Rattle.stack_code.specs.Code.{code_of, bytes, int_bytes, loads, stores, discards, texts, values, in_turn};
-ghost use Rattle.stack_code.specs.Emission.{IsMeasure, IsPlain, IsTesting, after_part, after_text};
+ghost use Rattle.std.specs.Prelude.{◌≡◌, ◌+◌, ◌&&◌, ◌||◌, map, not, true, false, if◌then◌else◌, IfOk};
+ghost use Rattle.stack_code.specs.Code.{code_of, bytes, kept_bytes, two_bytes, int_bytes, loads, stores, discards, texts, values, in_turn, condition_size, either_bytes};
+ghost use Rattle.stack_code.specs.Emission.{IsMeasure, IsPlain, IsTesting, IsExtent, after_part, after_text};
 
 use crate::constants::TooLarge;
 use kc_core::tree::{Core, Kind, Native, TypeTree, UnaryOp};
 use kc_text::Fail;
 
-/// The lengths of a node's code in bytes: of the form that leaves its value, and of the two forms that test it.
+/// The lengths of a node's code in bytes: of the form that leaves its value, and of the two forms that test it. And whether the
+/// code can go on at its end.
 #[derive(Clone, Copy)]
 pub struct Measure {
     pub value: u32,
     pub when_true: u32,
     pub when_false: u32,
+    pub goes_on: bool,
+}
+
+impl Measure {
+    /// The length of the form that goes on behind its end where the node's value is this one.
+    pub fn when(self, value: bool) -> u32
+        ensures { result ≡ (if value then self.when_true else self.when_false) }
+    {
+        if value {
+            self.when_true
+        } else {
+            self.when_false
+        }
+    }
+}
+
+/// The length of code in bytes, and whether it can go on at its end.
+#[derive(Clone, Copy)]
+pub struct Extent {
+    pub length: u32,
+    pub goes_on: bool,
 }
 
 /// The sum, where 32 bits hold it.
@@ -26,26 +48,35 @@ pub fn plus(a: u32, b: u32) -> Result<u32, Fail<TooLarge>>
     }
 }
 
-// Code that leaves its value: a test of it looks at the value.
-fn plain(value: u32) -> Result<Measure, Fail<TooLarge>>
-    ensures { IfOk result (λ m. IsPlain m value) }
+/// The length of what stands behind code, which is nothing where that does not go on.
+pub fn kept(goes_on: bool, length: u32) -> u32
+    ensures { result ≡ kept_bytes goes_on length }
 {
-    let test = plus(value, 3)?;
+    if goes_on { length } else { 0 }
+}
+
+// Code that leaves its value: a test of it looks at the value.
+fn plain(value: u32, goes_on: bool) -> Result<Measure, Fail<TooLarge>>
+    ensures { IfOk result (λ m. IsPlain m value goes_on) }
+{
+    let test = plus(value, kept(goes_on, 3))?;
     Ok(Measure {
         value,
         when_true: test,
         when_false: test,
+        goes_on,
     })
 }
 
 // Code that tests: its value is made of what the test comes to.
-fn testing(when_true: u32, when_false: u32) -> Result<Measure, Fail<TooLarge>>
-    ensures { IfOk result (λ m. IsTesting m when_true when_false) }
+fn testing(when_true: u32, when_false: u32, goes_on: bool) -> Result<Measure, Fail<TooLarge>>
+    ensures { IfOk result (λ m. IsTesting m when_true when_false goes_on) }
 {
     Ok(Measure {
-        value: plus(when_false, 5)?,
+        value: plus(when_false, kept(goes_on, 5))?,
         when_true,
         when_false,
+        goes_on,
     })
 }
 
@@ -101,123 +132,234 @@ pub fn discard_size(ty: TypeTree) -> u32
     }
 }
 
+// A child, and so many bytes of what takes its value.
 #[cycle(measures)]
-fn measure_stored(value: &Core, local: usize) -> Result<u32, Fail<TooLarge>>
-    ensures { IfOk result (λ n. n ≡ (code_of value.now).size + bytes (stores value.now.ty local)) }
+fn measure_then(value: &Core, tail: u32) -> Result<Measure, Fail<TooLarge>>
+    ensures { IfOk result (λ m. IsPlain m ((code_of value.now).size + kept_bytes (code_of value.now).goes_on tail) (code_of value.now).goes_on) }
 {
-    plus(measure_of(value)?.value, local_size(value.ty, local))
+    let first = measure_of(value)?;
+    plain(plus(first.value, kept(first.goes_on, tail))?, first.goes_on)
 }
 
+// Two children, and so many bytes of what takes their values.
 #[cycle(measures)]
-fn measure_two(left: &Core, right: &Core) -> Result<u32, Fail<TooLarge>>
-    ensures { IfOk result (λ n. n ≡ (code_of left.now).size + (code_of right.now).size) }
+fn measure_two(left: &Core, right: &Core, tail: u32) -> Result<Extent, Fail<TooLarge>>
+    ensures { IfOk result (λ e. IsExtent e (two_bytes (code_of left.now) (code_of right.now) tail) ((code_of left.now).goes_on && (code_of right.now).goes_on)) }
 {
-    plus(measure_of(left)?.value, measure_of(right)?.value)
+    let first = measure_of(left)?;
+    let second = measure_of(right)?;
+    let behind = plus(second.value, kept(second.goes_on, tail))?;
+    Ok(Extent {
+        length: plus(first.value, kept(first.goes_on, behind))?,
+        goes_on: first.goes_on && second.goes_on,
+    })
 }
 
 // A comparison has one length, whichever value it goes on for.
 #[cycle(measures)]
 fn measure_compared(left: &Core, right: &Core) -> Result<Measure, Fail<TooLarge>>
-    ensures { IfOk result (λ m. IsTesting m ((code_of left.now).size + (code_of right.now).size + 3) ((code_of left.now).size + (code_of right.now).size + 3)) }
+    ensures { IfOk result (λ m. IsTesting m (two_bytes (code_of left.now) (code_of right.now) 3) (two_bytes (code_of left.now) (code_of right.now) 3) ((code_of left.now).goes_on && (code_of right.now).goes_on)) }
 {
-    let test = plus(measure_two(left, right)?, 3)?;
-    testing(test, test)
+    let test = measure_two(left, right, 3)?;
+    testing(test.length, test.length, test.goes_on)
 }
 
 #[cycle(measures)]
 fn measure_negated(value: &Core) -> Result<Measure, Fail<TooLarge>>
-    ensures { IfOk result (λ m. IsTesting m ((code_of value.now).test_size false) ((code_of value.now).test_size true)) }
+    ensures { IfOk result (λ m. IsTesting m ((code_of value.now).test_size false) ((code_of value.now).test_size true) (code_of value.now).goes_on) }
 {
     let value = measure_of(value)?;
-    testing(value.when_false, value.when_true)
+    testing(value.when_false, value.when_true, value.goes_on)
 }
 
 // The left side decides where it has this value.
 #[cycle(measures)]
 fn measure_short(decisive: bool, left: &Core, right: &Core) -> Result<Measure, Fail<TooLarge>>
-    ensures { IfOk result (λ m. IsTesting m ((code_of left.now).test_size decisive + (code_of right.now).test_size true) ((code_of left.now).test_size decisive + (code_of right.now).test_size false)) }
+    ensures { IfOk result (λ m. IsTesting m ((code_of left.now).test_size decisive + kept_bytes (code_of left.now).goes_on ((code_of right.now).test_size true)) ((code_of left.now).test_size decisive + kept_bytes (code_of left.now).goes_on ((code_of right.now).test_size false)) (code_of left.now).goes_on) }
 {
     let first = measure_of(left)?;
-    let first = if decisive {
+    let length = if decisive {
         first.when_true
     } else {
         first.when_false
     };
     let second = measure_of(right)?;
     testing(
-        plus(first, second.when_true)?,
-        plus(first, second.when_false)?,
+        plus(length, kept(first.goes_on, second.when_true))?,
+        plus(length, kept(first.goes_on, second.when_false))?,
+        first.goes_on,
     )
 }
 
 #[cycle(measures)]
-fn measure_texts(parts: &[Core]) -> Result<u32, Fail<TooLarge>>
-    ensures { IfOk result (λ n. n ≡ (texts (map code_of parts.now)).size) }
+fn measure_texts(parts: &[Core]) -> Result<Extent, Fail<TooLarge>>
+    ensures { IfOk result (λ e. IsExtent e (texts (map code_of parts.now)).size (texts (map code_of parts.now)).goes_on) }
 {
     if parts.is_empty() {
-        return Ok(3);
+        return Ok(Extent {
+            length: 3,
+            goes_on: true,
+        });
     }
     let mut total = 0;
     for (i, part) in parts.iter().enumerate() {
-        let whole = plus(measure_of(part)?.value, join_size(part.ty, i == 0))?;
-        total = plus(total, whole)?;
+        let one = measure_of(part)?;
+        total = plus(total, one.value)?;
+        if !one.goes_on {
+            return Ok(Extent {
+                length: total,
+                goes_on: false,
+            });
+        }
+        total = plus(total, join_size(part.ty, i == 0))?;
     }
-    Ok(total)
+    Ok(Extent {
+        length: total,
+        goes_on: true,
+    })
 }
 
 #[cycle(measures)]
-fn measure_values(arguments: &[Core]) -> Result<u32, Fail<TooLarge>>
-    ensures { IfOk result (λ n. n ≡ (values (map code_of arguments.now)).size) }
+fn measure_values(arguments: &[Core]) -> Result<Extent, Fail<TooLarge>>
+    ensures { IfOk result (λ e. IsExtent e (values (map code_of arguments.now)).size (values (map code_of arguments.now)).goes_on) }
 {
     let mut total = 0;
     for value in arguments {
-        total = plus(total, measure_of(value)?.value)?;
+        let one = measure_of(value)?;
+        total = plus(total, one.value)?;
+        if !one.goes_on {
+            return Ok(Extent {
+                length: total,
+                goes_on: false,
+            });
+        }
     }
-    Ok(total)
+    Ok(Extent {
+        length: total,
+        goes_on: true,
+    })
 }
 
 #[cycle(measures)]
-fn measure_in_turn(parts: &[Core]) -> Result<u32, Fail<TooLarge>>
-    ensures { IfOk result (λ n. n ≡ (in_turn (map code_of parts.now)).size) }
+fn measure_in_turn(parts: &[Core]) -> Result<Extent, Fail<TooLarge>>
+    ensures { IfOk result (λ e. IsExtent e (in_turn (map code_of parts.now)).size (in_turn (map code_of parts.now)).goes_on) }
 {
     let mut total = 0;
     for (i, part) in parts.iter().enumerate() {
-        let whole = plus(
-            measure_of(part)?.value,
-            between_size(part.ty, i + 1 == parts.len()),
-        )?;
-        total = plus(total, whole)?;
+        let one = measure_of(part)?;
+        total = plus(total, one.value)?;
+        if !one.goes_on {
+            return Ok(Extent {
+                length: total,
+                goes_on: false,
+            });
+        }
+        total = plus(total, between_size(part.ty, i + 1 == parts.len()))?;
     }
-    Ok(total)
+    Ok(Extent {
+        length: total,
+        goes_on: true,
+    })
+}
+
+/// Is a node the literal true?
+pub fn is_true(node: &Core) -> bool
+    ensures { result ≡ (code_of node.now).always }
+{
+    match &node.kind {
+        Kind::BoolLit(value) => *value,
+        Kind::IntLit(_)
+        | Kind::StrLit(_)
+        | Kind::LocalRead(_)
+        | Kind::LocalWrite { .. }
+        | Kind::Declare { .. }
+        | Kind::NumBinary { .. }
+        | Kind::NumUnary { .. }
+        | Kind::NumCompare { .. }
+        | Kind::Equal { .. }
+        | Kind::Not(_)
+        | Kind::And { .. }
+        | Kind::Or { .. }
+        | Kind::Concat(_)
+        | Kind::CallNative { .. }
+        | Kind::Block(_)
+        | Kind::If { .. }
+        | Kind::While { .. } => false,
+    }
+}
+
+/// The length of a condition, which is nothing for the literal true.
+pub fn condition_length(test: &Core, measure: Measure) -> u32
+    requires { IsMeasure measure (code_of test.now) }
+    ensures { result ≡ condition_size (code_of test.now) }
+{
+    if is_true(test) { 0 } else { measure.when_false }
 }
 
 #[cycle(measures)]
-fn measure_if(test: &Core, held: &Core) -> Result<u32, Fail<TooLarge>>
-    ensures { IfOk result (λ n. n ≡ (code_of test.now).test_size false + (code_of held.now).size) }
+fn measure_if(test: &Core, held: &Core) -> Result<Measure, Fail<TooLarge>>
+    ensures { IfOk result (λ m. IsPlain m (condition_size (code_of test.now) + kept_bytes (code_of test.now).goes_on (code_of held.now).size) (if (code_of test.now).always then (code_of held.now).goes_on else (code_of test.now).goes_on)) }
 {
-    plus(measure_of(test)?.when_false, measure_of(held)?.value)
+    let condition = measure_of(test)?;
+    let held = measure_of(held)?;
+    let length = plus(
+        condition_length(test, condition),
+        kept(condition.goes_on, held.value),
+    )?;
+    plain(
+        length,
+        if is_true(test) {
+            held.goes_on
+        } else {
+            condition.goes_on
+        },
+    )
+}
+
+/// The length of the code for one way and of the jump over the code for the other.
+pub fn over_length(held: Measure) -> Result<u32, Fail<TooLarge>>
+    ensures { IfOk result (λ n. n ≡ held.value + kept_bytes held.goes_on 3) }
+{
+    plus(held.value, kept(held.goes_on, 3))
 }
 
 #[cycle(measures)]
-fn measure_if_else(test: &Core, held: &Core, failed: &Core) -> Result<u32, Fail<TooLarge>>
-    ensures { IfOk result (λ n. n ≡ (code_of test.now).test_size false + (code_of held.now).size + 3 + (code_of failed.now).size) }
+fn measure_if_else(test: &Core, held: &Core, failed: &Core) -> Result<Measure, Fail<TooLarge>>
+    ensures { IfOk result (λ m. IsPlain m (if (code_of test.now).always then (code_of held.now).size else either_bytes (code_of test.now) (code_of held.now) (code_of failed.now)) (if (code_of test.now).always then (code_of held.now).goes_on else (code_of test.now).goes_on && ((code_of held.now).goes_on || (code_of failed.now).goes_on))) }
 {
-    plus(plus(measure_if(test, held)?, 3)?, measure_of(failed)?.value)
+    let condition = measure_of(test)?;
+    let held = measure_of(held)?;
+    if is_true(test) {
+        return plain(held.value, held.goes_on);
+    }
+    let failed = measure_of(failed)?;
+    let ways = plus(over_length(held)?, failed.value)?;
+    plain(
+        plus(condition.when_false, kept(condition.goes_on, ways))?,
+        condition.goes_on && (held.goes_on || failed.goes_on),
+    )
 }
 
-/// The length of a loop's body and of what takes its value off the stack.
-#[cycle(measures)]
-pub fn measure_turn(body: &Core) -> Result<u32, Fail<TooLarge>>
-    ensures { IfOk result (λ n. n ≡ (code_of body.now).size + bytes (discards body.now.ty)) }
+/// The length of a loop's body and of what takes its value off the stack and jumps back.
+pub fn body_length(body: Measure, ty: TypeTree) -> Result<u32, Fail<TooLarge>>
+    ensures { IfOk result (λ n. n ≡ body.value + kept_bytes body.goes_on (bytes (discards ty) + 3)) }
 {
-    plus(measure_of(body)?.value, discard_size(body.ty))
+    plus(body.value, kept(body.goes_on, plus(discard_size(ty), 3)?))
 }
 
 #[cycle(measures)]
-fn measure_while(test: &Core, body: &Core) -> Result<u32, Fail<TooLarge>>
-    ensures { IfOk result (λ n. n ≡ (code_of test.now).test_size false + ((code_of body.now).size + bytes (discards body.now.ty)) + 3) }
+fn measure_while(test: &Core, body: &Core) -> Result<Measure, Fail<TooLarge>>
+    ensures { IfOk result (λ m. IsPlain m (condition_size (code_of test.now) + kept_bytes (code_of test.now).goes_on ((code_of body.now).size + kept_bytes (code_of body.now).goes_on (bytes (discards body.now.ty) + 3))) ((code_of test.now).goes_on && not (code_of test.now).always)) }
 {
-    plus(plus(measure_of(test)?.when_false, measure_turn(body)?)?, 3)
+    let condition = measure_of(test)?;
+    let turn = body_length(measure_of(body)?, body.ty)?;
+    plain(
+        plus(
+            condition_length(test, condition),
+            kept(condition.goes_on, turn),
+        )?,
+        condition.goes_on && !is_true(test),
+    )
 }
 
 /// The measure of a node's code. The time is linear in the node; the code of a node that stands n choices deep is measured n times.
@@ -226,36 +368,30 @@ pub fn measure_of(node: &Core) -> Result<Measure, Fail<TooLarge>>
     ensures { IfOk result (λ m. IsMeasure m (code_of node.now)) }
 {
     match &node.kind {
-        Kind::IntLit(n) => plain(int_size(*n)),
-        Kind::StrLit(_) => plain(3),
-        Kind::BoolLit(true) => Ok(Measure {
-            value: 1,
-            when_true: 3,
-            when_false: 0,
-        }),
-        Kind::BoolLit(false) => Ok(Measure {
-            value: 1,
-            when_true: 0,
-            when_false: 3,
-        }),
-        Kind::LocalRead(local) => plain(local_size(node.ty, *local)),
-        Kind::LocalWrite { local, value } => plain(measure_stored(value.get(), *local)?),
+        Kind::IntLit(n) => plain(int_size(*n), true),
+        Kind::StrLit(_) => plain(3, true),
+        Kind::BoolLit(_) => plain(1, true),
+        Kind::LocalRead(local) => plain(local_size(node.ty, *local), true),
+        Kind::LocalWrite { local, value } => measure_then(
+            value.get(),
+            local_size(value.get().ty, *local),
+        ),
         Kind::Declare {
             local: _,
             value: None,
-        } => plain(0),
+        } => plain(0, true),
         Kind::Declare {
             local,
             value: Some(value),
-        } => plain(measure_stored(value.get(), *local)?),
-        Kind::NumBinary { op: _, left, right } => plain(plus(
-            measure_two(left.get(), right.get())?,
-            1,
-        )?),
+        } => measure_then(value.get(), local_size(value.get().ty, *local)),
+        Kind::NumBinary { op: _, left, right } => {
+            let both = measure_two(left.get(), right.get(), 1)?;
+            plain(both.length, both.goes_on)
+        }
         Kind::NumUnary {
             op: UnaryOp::Minus,
             value,
-        } => plain(plus(measure_of(value.get())?.value, 1)?),
+        } => measure_then(value.get(), 1),
         Kind::NumCompare {
             order: _,
             left,
@@ -265,45 +401,38 @@ pub fn measure_of(node: &Core) -> Result<Measure, Fail<TooLarge>>
         Kind::Not(value) => measure_negated(value.get()),
         Kind::And { left, right } => measure_short(false, left.get(), right.get()),
         Kind::Or { left, right } => measure_short(true, left.get(), right.get()),
-        Kind::Concat(parts) => plain(measure_texts(parts.as_slice())?),
+        Kind::Concat(parts) => {
+            let parts = measure_texts(parts.as_slice())?;
+            plain(parts.length, parts.goes_on)
+        }
         Kind::CallNative {
             native: Native::ConsoleWrite,
             values,
-        } => plain(plus(measure_values(values.as_slice())?, 3)?),
-        Kind::Block(parts) => plain(measure_in_turn(parts.as_slice())?),
+        } => {
+            let values = measure_values(values.as_slice())?;
+            plain(
+                plus(values.length, kept(values.goes_on, 3))?,
+                values.goes_on,
+            )
+        }
+        Kind::Block(parts) => {
+            let parts = measure_in_turn(parts.as_slice())?;
+            plain(parts.length, parts.goes_on)
+        }
         Kind::If {
             test,
             held,
             failed: None,
-        } => plain(measure_if(test.get(), held.get())?),
+        } => measure_if(test.get(), held.get()),
         Kind::If {
             test,
             held,
             failed: Some(failed),
-        } => plain(measure_if_else(test.get(), held.get(), failed.get())?),
+        } => measure_if_else(test.get(), held.get(), failed.get()),
         Kind::While {
             label: _,
             test,
             body,
-        } => plain(measure_while(test.get(), body.get())?),
+        } => measure_while(test.get(), body.get()),
     }
-}
-
-/// The length of the form that leaves a node's value.
-pub fn value_length(node: &Core) -> Result<u32, Fail<TooLarge>>
-    ensures { IfOk result (λ n. n ≡ (code_of node.now).size) }
-{
-    Ok(measure_of(node)?.value)
-}
-
-/// The length of the form that goes on behind its end where a node's value is this one.
-pub fn test_length(node: &Core, when: bool) -> Result<u32, Fail<TooLarge>>
-    ensures { IfOk result (λ n. n ≡ (code_of node.now).test_size when) }
-{
-    let measure = measure_of(node)?;
-    Ok(if when {
-        measure.when_true
-    } else {
-        measure.when_false
-    })
 }
