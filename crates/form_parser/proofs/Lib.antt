@@ -1,0 +1,5 @@
+pub mod Cuts
+pub mod Decimals
+pub mod Forms
+pub mod Readings
+pub mod Trees

@@ -1,0 +1,5 @@
+pub mod Cut
+pub mod Grammar
+pub mod Form
+pub mod Pieces
+pub mod Parsed
