@@ -11,3 +11,5 @@ pub mod Stepping
 pub mod Sequences
 pub mod Ended
 pub mod FirstLot
+pub mod Verifying
+pub mod Buildable

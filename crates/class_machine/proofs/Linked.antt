@@ -91,12 +91,12 @@ one_more code k d ops new total lt h e =
     let cut : drop k code ≡ i ∷ drop (k + 1) code = drop-cons code k d lt ∙ ap (λ (n : ℕ). i ∷ drop n code) (sym (add-one k)) in
     ap (λ (x : List Op). x ++ ops_of (length new) (drop (k + 1) code)) h ∙ ap (λ (n : ℕ). (ops ++ front) ++ ops_of n (drop (k + 1) code)) len ∙ append_assoc ops front (ops_of (length ops + length_of i) (drop (k + 1) code)) ∙ ap (λ (c : List Instr). ops ++ ops_of (length ops) c) (sym cut) ∙ e
 
-flat_some : (slot : Option Entry) → flat (Some slot) ≡ slot
+pub flat_some : (slot : Option Entry) → flat (Some slot) ≡ slot
 flat_some (Some e) = refl
 flat_some None = refl
 
 -- what stands at an index of two lists that a function makes equal
-same_at : {A B Y : Type 0} (f : A → Y) (g : B → Y) (xs : List A) (ys : List B) (i : ℕ) (y : B) → map f xs ≡ map g ys → slice_get ys i ≡ Some y → (x : A) × (slice_get xs i ≡ Some x) × (f x ≡ g y)
+pub same_at : {A B Y : Type 0} (f : A → Y) (g : B → Y) (xs : List A) (ys : List B) (i : ℕ) (y : B) → map f xs ≡ map g ys → slice_get ys i ≡ Some y → (x : A) × (slice_get xs i ≡ Some x) × (f x ≡ g y)
 same_at f g xs ys i y e h = by (slice_get xs i) refl (sym (slice_get-map f xs i) ∙ ap (λ (s : List _). slice_get s i) e ∙ slice_get-map g ys i ∙ ap (option_map g) h)
   where
     by : (o : Option _) → slice_get xs i ≡ o → option_map f o ≡ Some (g y) → (x : _) × (slice_get xs i ≡ Some x) × (f x ≡ g y)
@@ -184,7 +184,7 @@ names_member : (id : NativeId) (m : Member) (o : Option Member) → native_membe
 names_member id m None k e = absurd cc
 names_member id m (Some member) k e = k ∙ ap Some (sym (member_same m member e))
 
-first_names : (ids : List NativeId) (m : Member) (id : NativeId) → first_named ids m ≡ Some id → native_member id ≡ Some m
+pub first_names : (ids : List NativeId) (m : Member) (id : NativeId) → first_named ids m ≡ Some id → native_member id ≡ Some m
 first_names [] m id e = absurd cc
 first_names (x ∷ ids) m id e = by (names x m) refl e (first_names ids m id)
   where
@@ -216,12 +216,12 @@ not_native set from i c = by (native_named c.member) refl
 -- ---- what the links of a set keep
 
 -- an instruction that the definition finds, by its class and its method
-record Fetched (set : Set) (class method at : ℕ) (i : Instr) : Type 0 where
-  c : ClassFile
-  m : Method
-  class_is : slice_get set.classes class ≡ Some c
-  method_is : slice_get c.methods method ≡ Some m
-  instr_is : instr_at m.code at ≡ Some i
+pub record Fetched (set : Set) (class method at : ℕ) (i : Instr) : Type 0 where
+  pub c : ClassFile
+  pub m : Method
+  pub class_is : slice_get set.classes class ≡ Some c
+  pub method_is : slice_get c.methods method ≡ Some m
+  pub instr_is : instr_at m.code at ≡ Some i
 
 in_class : (set : Set) (class method at : ℕ) (i : Instr) (c : ClassFile) (o : Option Method) → slice_get set.classes class ≡ Some c → slice_get c.methods method ≡ o → instr_in o at ≡ Some i → Fetched set class method at i
 in_class set class method at i c None k h e = absurd cc
@@ -231,7 +231,7 @@ fetched_by : (set : Set) (class method at : ℕ) (i : Instr) (o : Option ClassFi
 fetched_by set class method at i None k e = absurd cc
 fetched_by set class method at i (Some c) k e = in_class set class method at i c (slice_get c.methods method) k refl e
 
-fetched : (set : Set) (class method at : ℕ) (i : Instr) → fetch set class method at ≡ Some i → Fetched set class method at i
+pub fetched : (set : Set) (class method at : ℕ) (i : Instr) → fetch set class method at ≡ Some i → Fetched set class method at i
 unfolding fetch
 fetched set class method at i e = fetched_by set class method at i (slice_get set.classes class) refl e
 

@@ -1,11 +1,8 @@
 -- The initialisation of classes, and the call of main.
-use Rattle.std.proofs.Common.{◌≡◌, ◌≢◌, ℕ, suc, ◌+◌, ◌-◌, List, [], ◌∷◌, Option, Some, None, Bool, true, false, refl, sym, ap, subst, ◌∙◌, arith, cond, get_or, if◌then◌else◌}
-use Rattle.std.specs.Prelude.{slice_get, slice_set, position, reverse, replicate, codes, ◌&&◌, ◌||◌, not, nat_lt}
+use Rattle.std.proofs.Common.{◌≡◌, ◌≢◌, ℕ, ◌-◌, List, [], ◌∷◌, Option, Some, None, Bool, true, false, refl, sym, ap, subst, ◌∙◌, arith, get_or, if◌then◌else◌}
+use Rattle.std.specs.Prelude.{slice_get, slice_set, position, reverse, replicate, codes, ◌&&◌, ◌||◌, not}
 use Rattle.std.specs.List.{filter, find}
 use Rattle.std.specs.Option.{option_map}
-use Rattle.std.specs.List.{position_from}
-use Rattle.std.proofs.lemmas.Bool.{le-ltb}
-use Rattle.std.proofs.lemmas.Iterator.Adapters.{position_from-zero}
 use Rattle.std.proofs.lemmas.List.Quantifiers.{position-Some}
 use Rattle.std.proofs.lemmas.Option.{slice_get-get_or}
 use Rattle.class_file.specs.declared.value.Value.TheVariants.{Nothing}
@@ -13,7 +10,7 @@ use Rattle.class_file.specs.declared.class.Set.{Set}
 use Rattle.class_file.specs.declared.class.ClassFile.{ClassFile}
 use Rattle.class_file.specs.declared.class.Method.{Method}
 use Rattle.class_file.specs.Pools.{is_text}
-use Rattle.class_file.specs.Classes.{Body, Coded, NoBody, ClassView, FoundMethod, MethodView, built_ins, built_in_count, number_of_place, is_static_flag, is_abstract_flag, method_view, method_views, methods_in, is_method, class_view, viewed, class_at}
+use Rattle.class_file.specs.Classes.{Body, Coded, NoBody, ClassView, FoundMethod, MethodView, built_in_count, number_of_place, is_static_flag, is_abstract_flag, method_view, methods_in, is_method}
 use Rattle.class_file.specs.Natives.{Object}
 use Rattle.class_file.specs.Lots.{static_named}
 use Rattle.class_file.specs.Machine.{State, Active, Next, Going, Over, Stuck, step, begin, main_method, with, with_started, starting, unstarted, is_started, is_marked, marked, run_clinit, started_with, first_frame, clinit, begun, entered, first_locals, methods_of, method_at}
@@ -24,55 +21,9 @@ use Rattle.class_machine.specs.Core.{Core, state_of}
 use Rattle.class_machine.specs.Links.{IsLinked, plain_target, target_at, locals_of, main_target, main_in}
 use Rattle.class_machine.specs.Lot.{CanStart, MainIsBuilt}
 use Rattle.class_machine.specs.Runs.{starting_class}
+use Rattle.class_soundness.proofs.Named.{seen_at, own_seen, not_built_in, place_of_number, view_there}
 
--- ---- a class's own static methods
-
--- the static method at a place, as the definition sees it
-abbrev seen_at : ℕ → List Method → Option ℕ → Option MethodView
-seen_at class methods None = None
-seen_at class methods (Some place) = option_map (method_view class place) (slice_get methods place)
-
-module _ (name descriptor : List ℕ) (class : ℕ) (all : List Method) where
-  abbrev test : Method → Bool
-  test x = is_static_flag x.flags && (is_text x.name name && is_text x.descriptor descriptor)
-
-  -- the methods from a place on
-  own_from : (k : ℕ) (ms : List Method) → ((i : ℕ) → slice_get all (k + i) ≡ slice_get ms i) → find (is_method true name descriptor) (method_views class k ms) ≡ seen_at class all (position_from test k ms)
-  own_from k [] h = refl
-  own_from k (m ∷ ms) h = by (test m) refl (own_from (k + 1) ms (λ i. let n : (k + 1) + i ≡ k + suc i = omega arith in ap (slice_get all) n ∙ h (suc i)))
-    where
-      here : slice_get all k ≡ Some m
-      here = let z : k ≡ k + 0 = omega arith in ap (slice_get all) z ∙ h 0
-
-      by : (b : Bool) → test m ≡ b → find (is_method true name descriptor) (method_views class (k + 1) ms) ≡ seen_at class all (position_from test (k + 1) ms)
-          → find (is_method true name descriptor) (method_views class k (m ∷ ms)) ≡ seen_at class all (position_from test k (m ∷ ms))
-      by true e more =
-          ap (λ (b : Bool). if b then Some (method_view class k m) else find (is_method true name descriptor) (method_views class (k + 1) ms)) e
-          ∙ sym (ap (option_map (method_view class k)) here)
-          ∙ sym (ap (λ (b : Bool). seen_at class all (cond b (Some k) (position_from test (k + 1) ms))) e)
-      by false e more =
-          ap (λ (b : Bool). if b then Some (method_view class k m) else find (is_method true name descriptor) (method_views class (k + 1) ms)) e
-          ∙ more ∙ sym (ap (λ (b : Bool). seen_at class all (cond b (Some k) (position_from test (k + 1) ms))) e)
-
-  own_seen : find (is_method true name descriptor) (method_views class 0 all) ≡ seen_at class all (static_named name descriptor all)
-  own_seen =
-      own_from 0 all (λ i. let z : 0 + i ≡ i = omega arith in ap (slice_get all) z)
-      ∙ sym (ap (seen_at class all) (position_from-zero test all))
-
--- the number of a class of the set is behind those of the built-in ones
-not_built_in : (k : ℕ) → nat_lt (number_of_place k) built_in_count ≡ false
-not_built_in k = le-ltb (number_of_place k) built_in_count (omega arith)
-
-place_of_number : (k : ℕ) → number_of_place k - built_in_count ≡ k
-place_of_number k = omega arith
-
-view_there : (set : Set) (class : ℕ) (c : ClassFile) → slice_get set.classes class ≡ Some c → class_at set (number_of_place class) ≡ Some (class_view class c)
-view_there set class c e =
-    ap (λ (b : Bool). if b then slice_get built_ins (number_of_place class) else viewed (number_of_place class - built_in_count) (slice_get set.classes (number_of_place class - built_in_count))) (not_built_in class)
-    ∙ ap (λ (k : ℕ). viewed k (slice_get set.classes k)) (place_of_number class)
-    ∙ ap (viewed class) e
-
-clinit_seen : (set : Set) (class : ℕ) (c : ClassFile) → slice_get set.classes class ≡ Some c → clinit set (number_of_place class) ≡ seen_at class c.methods (static_named (codes "<clinit>") (codes "()V") c.methods)
+pub clinit_seen : (set : Set) (class : ℕ) (c : ClassFile) → slice_get set.classes class ≡ Some c → clinit set (number_of_place class) ≡ seen_at class c.methods (static_named (codes "<clinit>") (codes "()V") c.methods)
 clinit_seen set class c e =
     ap (λ (o : Option ClassView). find (is_method true (codes "<clinit>") (codes "()V")) (methods_in o)) (view_there set class c e)
     ∙ own_seen (codes "<clinit>") (codes "()V") class c.methods

@@ -2,6 +2,7 @@ pub mod Faults
 pub mod Stacks
 pub mod Heaps
 pub mod Lot
+pub mod Building
 pub mod Links
 pub mod Core
 pub mod Runs

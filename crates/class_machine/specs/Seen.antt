@@ -1,8 +1,11 @@
 -- What callers see of a machine, and what a run comes to.
-use Rattle.std.specs.Prelude.{◌≡◌, ℕ, ◌<◌, ◌++◌, Bool, true, false, List, Option, ⊤}
+use Rattle.std.specs.Prelude.{◌≡◌, ℕ, ◌<◌, ◌++◌, Bool, true, false, List, Option, Some, ⊤}
 use Rattle.class_file.specs.declared.class.Set.{Set}
 use Rattle.class_file.specs.Machine.{Next, Going, Over}
 use Rattle.class_file.specs.Machine as machine
+use Rattle.class_file.specs.Verification.{Verifies, first_fault}
+use Rattle.class_machine.specs.declared.machine.LoadFault.{LoadFault}
+use Rattle.class_machine.specs.declared.machine.LoadFault.TheVariants.{NotBuilt, NotLoaded, Faulty}
 use Rattle.class_machine.specs.declared.machine.RunEnd.{RunEnd}
 use Rattle.class_machine.specs.declared.machine.RunEnd.TheVariants.{Ended, Threw, StepLimit, ReadFault, WriteFault, Memory}
 use Rattle.class_machine.specs.Core.{Core, state_of}
@@ -32,3 +35,10 @@ abbrev pub IsCausedBy : RunEnd → ℕ → ℕ → ℕ → ℕ → Type 0
 IsCausedBy ReadFault in_before in_after out_before out_after = in_before < in_after
 IsCausedBy WriteFault in_before in_after out_before out_after = out_before < out_after
 IsCausedBy _ in_before in_after out_before out_after = ⊤
+
+-- What is told of a set that is not run: a fault is its first one, and it does not verify. Nothing is told of one that is not built
+-- or not loaded.
+abbrev pub IsRefused : Set → LoadFault → Type 0
+IsRefused set NotBuilt = ⊤
+IsRefused set NotLoaded = ⊤
+IsRefused set (Faulty fault) = (first_fault set ≡ Some fault) × ¬ (Verifies set)

@@ -1,6 +1,7 @@
 //! A machine that runs class files: code linked by byte offset, steps, and runs over a source and a sink.
 #![tactic(auto)]
 
+mod building;
 mod calls;
 mod faults;
 mod frame;
@@ -14,7 +15,10 @@ mod natives;
 mod rows;
 mod run;
 mod steps;
+#[cfg(test)]
+mod tests;
 mod throws;
 
+pub use building::is_built;
 pub use laws::{first_lot_is_built, output_grows, runs_add};
-pub use machine::{Machine, RunEnd};
+pub use machine::{LoadFault, Machine, RunEnd};

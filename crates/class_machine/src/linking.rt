@@ -89,7 +89,7 @@ fn exception_named(name: &Text) -> Option<usize>
     }
 }
 
-fn caught(pool: &Pool, catch_type: u16) -> Caught
+pub fn caught(pool: &Pool, catch_type: u16) -> Caught
     ensures { result ≡ caught_in (catch_type == 0) (name_in pool.now (entry_at pool.now catch_type)) }
 {
     if catch_type == 0 {
@@ -181,7 +181,7 @@ fn is_native(
 }
 
 // The native of this class, name and descriptor.
-fn native_named(owner: &Text, name: &Text, descriptor: &Text) -> Option<NativeId>
+pub fn native_named(owner: &Text, name: &Text, descriptor: &Text) -> Option<NativeId>
     ensures { result ≡ native_named (record { owner = owner.now; name = name.now; descriptor = descriptor.now }) }
 {
     if is_native(
@@ -247,7 +247,7 @@ fn native_named(owner: &Text, name: &Text, descriptor: &Text) -> Option<NativeId
     None
 }
 
-fn text_at(pool: &Pool, index: u16) -> Option<&Text>
+pub fn text_at(pool: &Pool, index: u16) -> Option<&Text>
     ensures { option_copied result ≡ text_in (entry_at pool.now index) }
 {
     match pool.get(index as usize) {
@@ -256,7 +256,7 @@ fn text_at(pool: &Pool, index: u16) -> Option<&Text>
     }
 }
 
-fn name_at(pool: &Pool, index: u16) -> Option<&Text>
+pub fn name_at(pool: &Pool, index: u16) -> Option<&Text>
     ensures { option_copied result ≡ name_in pool.now (entry_at pool.now index) }
 {
     match pool.get(index as usize) {
@@ -287,7 +287,7 @@ fn class_named(name: &Text, classes: &[ClassFile]) -> Option<usize>
 }
 
 // The first static method of this name and descriptor.
-fn static_named(name: &Text, descriptor: &Text, methods: &[Method]) -> Option<usize>
+pub fn static_named(name: &Text, descriptor: &Text, methods: &[Method]) -> Option<usize>
     ensures { result ≡ static_named name.now descriptor.now methods.now }
 {
     methods.iter().position(|method| method.flags & 0x0008 != 0

@@ -1,13 +1,17 @@
 //! The machine as its callers see it.
 
 ghost use Rattle.std.specs.Prelude.{◌≡◌, ◌<◌, ◌≤◌, ◌^◌, [], true, false, length, replicate, All, IfOk};
+ghost use Rattle.kc_text.specs.Fail.{IfFound};
 ghost use Rattle.class_file.specs.Machine.{on_from, Going, message, first_heap};
 ghost use Rattle.class_machine.specs.declared.machine.RunEnd.TheVariants as run_end;
 ghost use Rattle.class_machine.specs.Core.{state_of, core_of, first_core, NeverStuck};
 ghost use Rattle.class_machine.specs.Heaps.{objects_of};
 ghost use Rattle.class_machine.specs.Lot.{IsBuilt, class_name};
-ghost use Rattle.class_machine.specs.Seen.{RunsTo, IsCausedBy, is_step_limit};
+ghost use Rattle.class_machine.specs.Seen.{RunsTo, IsCausedBy, IsRefused, is_step_limit};
+ghost use Rattle.class_soundness.specs.Soundness.{IsLoaded};
+ghost use Rattle.verifier.specs.Answers.{IsCounted, IsOfFirstLot};
 
+use crate::building::is_built;
 use crate::faults::Fault;
 use crate::heap::Object;
 use crate::linking::link;
@@ -17,10 +21,13 @@ use crate::steps::run_on;
 use crate::throws::{class_name, message};
 use class_file::class::Set;
 use class_file::value::BuiltIn;
+use class_file::verify_code::VerifyFault;
+use class_soundness::verified_is_never_stuck;
 use kc_io::{Sink, Source};
-use kc_text::{Memory, Text};
+use kc_text::{Fail, Memory, Text};
 use std::alloc::Global;
 use std::marker::Model;
+use verifier::{Verified, is_first_lot, is_loaded, verify};
 
 // The number of the class of Unit.
 const UNIT_CLASS: usize = 27;
@@ -40,6 +47,17 @@ pub enum RunEnd {
     WriteFault,
     /// An allocation failed.
     Memory,
+}
+
+/// Why the machine does not run a set.
+#[derive(Clone, Copy, Debug, PartialEq, Eq)]
+pub enum LoadFault {
+    /// An instruction, a call or a handler is not built yet.
+    NotBuilt,
+    /// The set is not loaded: `main` is missing, a class is above itself, or the like.
+    NotLoaded,
+    /// The set does not verify, and this is its first fault.
+    Faulty(VerifyFault),
 }
 
 /// A machine over class files whose run is never stuck. After a run that ended in another way than by its steps it is dead.
@@ -84,6 +102,38 @@ impl<'a> Machine<'a> {
         })
     }
 
+    /// The machine over a set that verifies, before its first step: its run is never stuck. The set must be loaded.
+    pub fn start_verified(alloc: Global, verified: &Verified<'a>) -> Result<Machine<'a>, Memory>
+        requires codes { All (λ c. All (λ m. length m.code < 2 ^ 28) c.methods) verified.now.classes }
+        requires built { IsBuilt verified.now }
+        requires loaded { IsLoaded verified.now }
+        ensures { IfOk result (λ m. (m.set ≡ verified.now) × (m.core ≡ first_core verified.now) × (m.live ≡ true)) }
+    {
+        let set = verified.set();
+        verified_is_never_stuck();
+        Machine::start(alloc, set)
+    }
+
+    /// The machine over a set, before its first step, where the set is one that the machine runs: of the first lot, loaded, built and
+    /// verified.
+    pub fn load(alloc: Global, set: &'a Set) -> Result<Machine<'a>, Fail<LoadFault>>
+        ensures ok { IfOk result (λ m. (m.set ≡ set.now) × (m.core ≡ first_core set.now) × (m.live ≡ true)) }
+        ensures fault { IfFound result (λ fault. IsRefused set.now fault) }
+    {
+        if !is_first_lot(set) {
+            return Err(Fail::Found(LoadFault::NotBuilt));
+        }
+        if !is_loaded(alloc, set)? {
+            return Err(Fail::Found(LoadFault::NotLoaded));
+        }
+        if !is_built(alloc, set)? {
+            return Err(Fail::Found(LoadFault::NotBuilt));
+        }
+        let verified = verified_set(alloc, set)?;
+        let machine = Machine::start_verified(alloc, &verified)?;
+        Ok(machine)
+    }
+
     /// Can the machine go on?
     pub fn is_live(&self) -> bool
         ensures { result ≡ self.now.live }
@@ -121,6 +171,20 @@ impl<'a> Machine<'a> {
             Err(Fault::Write) => RunEnd::WriteFault,
             Err(Fault::Memory) => RunEnd::Memory,
         }
+    }
+}
+
+// The set, where it verifies.
+fn verified_set<'a>(alloc: Global, set: &'a Set) -> Result<Verified<'a>, Fail<LoadFault>>
+    requires codes { IsCounted set.now }
+    requires lot { IsOfFirstLot set.now }
+    ensures ok { IfOk result (λ verified. verified ≡ set.now) }
+    ensures fault { IfFound result (λ fault. IsRefused set.now fault) }
+{
+    match verify(alloc, set) {
+        Ok(verified) => Ok(verified),
+        Err(Fail::Found(fault)) => Err(Fail::Found(LoadFault::Faulty(fault))),
+        Err(Fail::Memory) => Err(Fail::Memory),
     }
 }
 

@@ -79,7 +79,7 @@ module _ (set : Set) (loaded : IsLoaded set) where
   object_chain : chain set 0 ≡ 0 ∷ []
   object_chain = ap (λ (o : Option ℕ). 0 ∷ or_none o (chain_up_to (class_count set) set)) (above_object set)
 
-  below_object : (n : ℕ) → superclass set n ≡ Some 0 → chain set n ≡ n ∷ 0 ∷ []
+  pub below_object : (n : ℕ) → superclass set n ≡ Some 0 → chain set n ≡ n ∷ 0 ∷ []
   below_object n e = whole set loaded n ∙ ap (λ (o : Option ℕ). n ∷ or_none o (chain set)) e ∙ ap (λ (ns : List ℕ). n ∷ ns) object_chain
 
   -- what is above a class's superclass is above the class

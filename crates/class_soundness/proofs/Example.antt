@@ -17,7 +17,7 @@ use Rattle.class_file.specs.Typing.{Types}
 use Rattle.class_file.specs.Verification.{Verifies, MethodVerifies, IsTyped, Passes, first_types, given_at, starts}
 use Rattle.class_soundness.specs.Soundness.{HasMain, IsLoaded, IsFlat, LawIsOfSomeSet}
 use Rattle.class_soundness.proofs.Found.{some_same, none_is}
-use Rattle.class_soundness.proofs.Flat.{flat_heights}
+use Rattle.class_soundness.proofs.Ranked.{flat_heights}
 use Rattle.class_soundness.proofs.Frames.{starting_at}
 use Rattle.class_soundness.proofs.Listed.{first_lot}
 

@@ -12,6 +12,8 @@ pub mod Frames
 pub mod Throws
 pub mod Steps
 pub mod Sound
-pub mod Flat
+pub mod Ranked
 pub mod Listed
 pub mod Example
+pub mod Named
+pub mod Plain

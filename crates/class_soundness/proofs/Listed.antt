@@ -18,7 +18,7 @@ head_of P x xs h = h 0 x (omega arith)
 tail_of : {X : Type 0} (P : X → Type 0) (x : X) (xs : List X) → All P (x ∷ xs) → All P xs
 tail_of P x xs h = λ k d lt. h (suc k) d (omega arith)
 
-each : {X : Type 0} (P : X → Type 0) (xs : List X) (k : ℕ) (x : X) → All P xs → slice_get xs k ≡ Some x → P x
+pub each : {X : Type 0} (P : X → Type 0) (xs : List X) (k : ℕ) (x : X) → All P xs → slice_get xs k ≡ Some x → P x
 each P [] k x h e = absurd cc
 each P (y ∷ ys) zero x h e = subst P (some_same y x e) (head_of P y ys h)
 each P (y ∷ ys) (suc k) x h e = each P ys k x (tail_of P y ys h) e

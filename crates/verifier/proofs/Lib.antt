@@ -3,3 +3,4 @@ pub mod Law
 pub mod Loop
 pub mod Marks
 pub mod FrameTable
+pub mod Wholes

@@ -1,3 +1,4 @@
 pub mod Flags
 pub mod Turns
 pub mod Answers
+pub mod Whole

@@ -4,6 +4,7 @@
 mod flow;
 mod frames;
 mod handlers;
+mod loading;
 mod lot;
 mod scan;
 mod tabled;
@@ -12,5 +13,6 @@ mod tables;
 mod tests;
 mod verified;
 
+pub use loading::{is_loaded, is_reserved};
 pub use lot::is_first_lot;
 pub use verified::{Verified, verify};

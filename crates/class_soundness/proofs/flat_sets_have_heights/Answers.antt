@@ -1,4 +1,4 @@
-use Rattle.class_soundness.proofs.Flat.{flat_heights}
+use Rattle.class_soundness.proofs.Ranked.{flat_heights}
 use Rattle.class_soundness.proofs.flat_sets_have_heights.Goals as goal
 
 pub returns : goal.returns
