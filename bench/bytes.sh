@@ -1,47 +1,16 @@
 #!/usr/bin/env bash
-# Times the reader of class files on generated classes of growing size, and prints the seconds and how they grow when the class
-# doubles. It builds a small program over the crates of this repository in a folder of its own. Needs the Rattle kit.
+# Times the reader and the writer of class files on generated classes of growing size, by the program of crates/class_copy, and prints
+# the seconds and how they grow when the class doubles. A class with a byte behind its end is read whole and then refused, which is the
+# time of reading alone. Needs the Rattle kit.
 set -eu
 top=$(cd "$(dirname "${BASH_SOURCE[0]}")/.." && pwd)
 work=$(mktemp -d)
 trap 'rm -rf "$work"' EXIT
 
-mkdir -p "$work/crates/bytes_bench/src" "$work/crates/bytes_bench/specs"
-for crate in kc_text class_file verifier_types class_reader; do
-    cp -r "$top/crates/$crate" "$work/crates/$crate"
-    rm -rf "$work/crates/$crate/out"
-done
-grep -E '^(kc_text|class_file|verifier_types|class_reader):' "$top/crates.txt" >"$work/crates.txt"
-echo 'bytes_bench: kc_text class_file class_reader sqlite_items' >>"$work/crates.txt"
-: >"$work/crates/bytes_bench/specs/Lib.antt"
-cat >"$work/crates/bytes_bench/src/main.rt" <<'PROGRAM'
-//! Prints how many methods the class of the file `M.class` has.
-#![tactic(auto)]
-
-use class_reader::read_class;
-use std::alloc::Global;
-use std::{fs, io};
-
-fn count(alloc: Global, bytes: &[u8]) -> usize {
-    match read_class(alloc, bytes) {
-        Ok(class) => class.methods.len(),
-        Err(_) => 0,
-    }
-}
-
-fn main(rt: HostRuntime) -> io::Result<()> {
-    let alloc = rt.alloc();
-    let bytes = fs::read(&rt, "M.class")?;
-    let methods = count(alloc, bytes.as_slice());
-    println!(rt; "{methods}")?;
-    Ok(())
-}
-PROGRAM
-
-cd "$work/crates/bytes_bench"
+crate=$top/crates/class_copy
 echo 'building' >&2
-rt run -- >"$work/build.log" 2>&1 </dev/null || true
-program=$work/crates/bytes_bench/out/bytes_bench
+(cd "$crate" && rt run --) >"$work/build.log" 2>&1 </dev/null || true
+program=$crate/out/class_copy
 [ -x "$program" ] || { tail -n 20 "$work/build.log" >&2; exit 1; }
 
 u2() { printf "\\x$(printf %02x $(($1 / 256)))\\x$(printf %02x $(($1 % 256)))"; }
@@ -74,17 +43,27 @@ class() {
     printf '\0\0'
 }
 
+# milliseconds that the program takes for a file
+took() {
+    local start end
+    start=$(date +%s%N)
+    "$program" "$1" >"$work/told"
+    end=$(date +%s%N)
+    echo $(((end - start) / 1000000))
+}
+
+seconds() { printf '%d.%03d' $(($1 / 1000)) $(($1 % 1000)); }
+
 cd "$work"
 before=
-echo 'MiB  methods  seconds  ratio'
+echo 'MiB   read  and written  ratio  told'
 for size in 1 2 4 8 16; do
     class $((size * 16)) >M.class
-    start=$(date +%s%N)
-    methods=$("$program")
-    end=$(date +%s%N)
-    took=$(((end - start) / 1000000))
+    { cat M.class; printf '\0'; } >Trailing.class
+    read=$(took Trailing.class)
+    both=$(took M.class)
     ratio=-
-    [ -n "$before" ] && [ "$before" -gt 0 ] && ratio=$((took * 100 / before))
-    printf '%3d  %s  %d.%03d  %s%%\n' "$size" "$methods" $((took / 1000)) $((took % 1000)) "$ratio"
-    before=$took
+    [ -n "$before" ] && [ "$before" -gt 0 ] && ratio=$((both * 100 / before))%
+    printf '%3d  %s  %s  %s  %s\n' "$size" "$(seconds "$read")" "$(seconds "$both")" "$ratio" "$(cat told)"
+    before=$both
 done

@@ -9,3 +9,5 @@ pub mod Ending
 pub mod Keys
 pub mod Prefix
 pub mod Pieces
+pub mod Places
+pub mod Spelling

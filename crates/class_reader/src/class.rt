@@ -1,7 +1,10 @@
 //! Classes from bytes (Java Virtual Machine Specification SE 8, 4.1).
-ghost use Rattle.std.specs.Prelude.{◌≡◌};
+ghost use Rattle.std.specs.Prelude.{◌≡◌, IfOk};
+ghost use Rattle.class_file.specs.declared.class.ClassFile.{ClassFile};
+ghost use Rattle.class_file.specs.ClassBytes.{AreBytes, Spells};
 ghost use Rattle.class_file.specs.Inputs.{each, table};
 ghost use Rattle.class_file.specs.FormatFaults.{class_named, head_at, class_at, class_of};
+ghost use Rattle.kc_text.specs.Fail.{IfFound};
 ghost use Rattle.class_reader.specs.Reads.{Gives, Reads, input_of};
 
 use crate::attributes::attributes_at;
@@ -105,9 +108,7 @@ fn class_at<'b>(alloc: Global, input: Input<'b>) -> Result<(ClassFile, Input<'b>
     Ok((class, rest))
 }
 
-/// The class that the bytes spell, or the first fault of bytes that spell none: the first by its offset, and at one field the one
-/// whose code stands first in [`FormatCode`].
-pub fn read_class(alloc: Global, bytes: &[u8]) -> Result<ClassFile, Fail<FormatFault>>
+fn class_of(alloc: Global, bytes: &[u8]) -> Result<ClassFile, Failure>
     ensures { Gives (λ class. class) result (class_of bytes.now) }
 {
     let (class, rest) = class_at(
@@ -119,4 +120,22 @@ pub fn read_class(alloc: Global, bytes: &[u8]) -> Result<ClassFile, Fail<FormatF
     )?;
     ended(rest)?;
     Ok(class)
+}
+
+// Each byte is below 2 ^ 8, which the laws of class bytes ask for.
+fn are_bytes(bytes: &[u8])
+    ensures { AreBytes bytes.now }
+{
+    let _count = bytes.len();
+}
+
+/// The class that the bytes spell, or the first fault of bytes that spell none: the first by its offset, and at one field the one
+/// whose code stands first in [`FormatCode`].
+pub fn read_class(alloc: Global, bytes: &[u8]) -> Result<ClassFile, Fail<FormatFault>>
+    ensures exact { Gives (λ class. class) result (class_of bytes.now) }
+    ensures found { IfOk result (λ class. Spells class bytes.now) }
+    ensures refused { IfFound result (λ _. (class : ClassFile) → ¬ (Spells class bytes.now)) }
+{
+    are_bytes(bytes);
+    class_of(alloc, bytes)
 }

@@ -12,12 +12,9 @@ ghost use Rattle.class_reader.specs.declared.uses.Wanted.TheVariants as wanted;
 use crate::input::{Failure, Input, bytes_at, fault, s4_at, s8_at, u1_at, u2_at};
 use crate::uses::{Use, Wanted, judged_uses};
 use class_file::format_fault::{FormatCode, FormatFault};
-use class_file::pool::{Entry, Pool, PoolFull};
+use class_file::pool::{Entry, Pool};
 use kc_text::{BadModified, Fail, Memory, Text};
 use std::alloc::Global;
-
-// The most indexes of a pool, index 0 among them.
-const MOST: usize = 65_535;
 
 // What a text consists of is below 2 ^ 16, which the law of its bytes asks for.
 fn are_units(units: &[u16])
@@ -168,23 +165,6 @@ fn entry_at<'b>(
     tagged_at(alloc, uses, left, input.at, tag, rest)
 }
 
-// Adds an entry at the end of the pool.
-fn append(pool: &mut Pool, entry: Entry) -> Result<(), Memory>
-    ensures { OnOk result (pool.new ≡ pool.old ++ added entry) }
-{
-    let end = pool.count();
-    match pool.index(entry) {
-        Ok(index) => {
-            // A pool that holds an entry twice can't be built yet.
-            if index as usize != end {
-                return Err(Memory);
-            }
-            Ok(())
-        }
-        Err(_full) => Err(Memory),
-    }
-}
-
 // Reads entries up to the count, at most so many.
 fn entries_at<'b>(
     alloc: Global,
@@ -193,6 +173,7 @@ fn entries_at<'b>(
     count: usize,
     input: Input<'b>,
 ) -> Result<Result<Input<'b>, FormatFault>, Memory>
+    requires { count ≤ 65535 }
     ensures { IsPool result pool.new uses.new.items (entries_at count count pool.old (uses_of uses.old.items) (input_of input.entry)) }
 {
     let mut rest = input;
@@ -205,7 +186,7 @@ fn entries_at<'b>(
             Err(Fail::Memory) => return Err(Memory),
             Err(Fail::Found(found)) => return Ok(Err(found)),
             Ok((entry, behind)) => {
-                append(pool, entry)?;
+                pool.append(entry)?;
                 rest = behind;
             }
         }
@@ -219,6 +200,7 @@ fn judged_pool<'b>(
     count: usize,
     input: Input<'b>,
 ) -> Result<(Pool, Input<'b>), Failure>
+    requires { count ≤ 65535 }
     ensures { Reads (λ pool. pool) result (judged_pool count (entries_at count count (None ∷ []) [] (input_of input.entry))) }
 {
     let mut pool = Pool::new(alloc);

@@ -1,5 +1,6 @@
 use super::*;
 use class_file::format_fault::{FormatCode, FormatFault};
+use class_file::pool::Entry;
 use kc_text::Fail;
 use std::test::Fail as Failed;
 
@@ -48,6 +49,53 @@ fn tells_the_first_fault(rt: HostRuntime) {
         assert!(rt; is_fault(&rt, &bytes, at, code));
     }
     assert!(rt; is_fault(&rt, &BYTES[..99], 98, FormatCode::Truncated));
+}
+
+// A class M with the fields a and b of the type I and the method f()V, which has a frame; then a byte that does not belong to it.
+const FRAMED: [u8; 151] = [
+    202, 254, 186, 190, 0, 0, 0, 52, 0, 12, 1, 0, 1, 77, 7, 0, 1, 1, 0, 16, 106, 97, 118, 97, 47,
+    108, 97, 110, 103, 47, 79, 98, 106, 101, 99, 116, 7, 0, 3, 1, 0, 1, 97, 1, 0, 1, 73, 1, 0, 1,
+    98, 1, 0, 13, 83, 116, 97, 99, 107, 77, 97, 112, 84, 97, 98, 108, 101, 1, 0, 4, 67, 111, 100,
+    101, 1, 0, 1, 102, 1, 0, 3, 40, 41, 86, 0, 33, 0, 2, 0, 4, 0, 0, 0, 2, 0, 9, 0, 5, 0, 6, 0, 0,
+    0, 9, 0, 7, 0, 6, 0, 0, 0, 1, 0, 9, 0, 10, 0, 11, 0, 1, 0, 9, 0, 0, 0, 22, 0, 0, 0, 0, 0, 0, 0,
+    1, 177, 0, 0, 0, 1, 0, 8, 0, 0, 0, 3, 0, 1, 0, 0, 0, 0,
+];
+
+const FRAMED_FAULTS: [(usize, u8, usize, FormatCode); 4] = [
+    (105, 5, 106, FormatCode::Doubled),
+    (144, 2, 147, FormatCode::Truncated),
+    (146, 0, 147, FormatCode::Trailing),
+    (147, 200, 147, FormatCode::BadFrame),
+];
+
+#[test]
+fn tells_the_first_fault_of_members(rt: HostRuntime) {
+    for (place, byte, at, code) in FRAMED_FAULTS {
+        let mut bytes = FRAMED;
+        bytes[place % 151] = byte;
+        assert!(rt; is_fault(&rt, &bytes[..150], at, code));
+    }
+    assert!(rt; read_class(rt.alloc(), &FRAMED[..150]).is_ok());
+    assert!(rt; is_fault(&rt, &FRAMED, 150, FormatCode::Trailing));
+}
+
+// A pool that holds a text and a long twice is kept as it stands.
+const REPEATED: [u8; 122] = [
+    202, 254, 186, 190, 0, 0, 0, 52, 0, 13, 1, 0, 1, 77, 7, 0, 1, 1, 0, 16, 106, 97, 118, 97, 47,
+    108, 97, 110, 103, 47, 79, 98, 106, 101, 99, 116, 7, 0, 3, 1, 0, 4, 109, 97, 105, 110, 1, 0, 3,
+    40, 41, 86, 1, 0, 4, 67, 111, 100, 101, 1, 0, 1, 77, 5, 0, 0, 0, 0, 0, 0, 0, 7, 5, 0, 0, 0, 0,
+    0, 0, 0, 7, 0, 33, 0, 2, 0, 4, 0, 0, 0, 0, 0, 1, 0, 9, 0, 5, 0, 6, 0, 1, 0, 7, 0, 0, 0, 13, 0,
+    0, 0, 0, 0, 0, 0, 1, 177, 0, 0, 0, 0, 0, 0,
+];
+
+#[test]
+fn reads_repeated_entries(rt: HostRuntime) -> Result<(), Failed> {
+    let class = read_class(rt.alloc(), &REPEATED).ok().ok_or("no class")?;
+    assert_eq!(rt; class.pool.count(), 13);
+    assert!(rt; matches!(class.pool.get(9), Some(Entry::Long(7))));
+    assert!(rt; matches!(class.pool.get(11), Some(Entry::Long(7))));
+    assert!(rt; class.pool.get(12).is_none());
+    Ok(())
 }
 
 // Any byte behind the pool may be changed.

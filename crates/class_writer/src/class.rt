@@ -1,7 +1,8 @@
 //! Classes as bytes (Java Virtual Machine Specification SE 8, 4.1).
-ghost use Rattle.std.specs.Prelude.{◌≡◌, ◌++◌, ◌<◌, ◌^◌, List, ℕ, OnOk, IfOk, length};
+ghost use Rattle.std.specs.Prelude.{◌≡◌, ◌++◌, ◌<◌, ◌^◌, ◌≤◌, List, ℕ, Ok, OnOk, IfOk, length};
 ghost use Rattle.class_file.specs.InstrBytes.{u2};
 ghost use Rattle.class_file.specs.ClassBytes.{Spells};
+ghost use Rattle.class_file.specs.FormatFaults.{class_of};
 ghost use Rattle.class_file.specs.WrittenClass.{class_bytes, head_bytes, name_bytes, names_bytes, table_bytes};
 ghost use Rattle.class_writer.specs.Indexes.{AreFirst, slots_of};
 
@@ -77,6 +78,8 @@ pub fn write_class(alloc: Global, class: &ClassFile) -> Result<Vec<u8>, Memory>
     requires { (bytes : List ℕ) × Spells class.now bytes }
     ensures written { IfOk result (λ bytes. bytes.items ≡ class_bytes class.now) }
     ensures spells { IfOk result (λ bytes. Spells class.now bytes.items) }
+    ensures shortest { IfOk result (λ bytes. (others : List ℕ) → Spells class.now others → length bytes.items ≤ length others) }
+    ensures read { IfOk result (λ bytes. class_of bytes.items ≡ Ok class.now) }
 {
     let bytes = bytes_of(alloc, class)?;
     Ok(bytes)

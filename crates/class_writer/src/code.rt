@@ -2,7 +2,7 @@
 ghost use Rattle.std.specs.Prelude.{◌≡◌, ◌++◌, ◌<◌, ◌^◌, List, ℕ, None, OnOk, IfOk, length, codes};
 ghost use Rattle.std.specs.List.{flat_map, AllByRecursion};
 ghost use Rattle.class_file.specs.InstrBytes.{u2, instr_bytes};
-ghost use Rattle.class_file.specs.ClassBytes.{CodeIs, CodeAttributesAre, FramesAre, stack_map_table};
+ghost use Rattle.class_file.specs.ClassBytes.{CodeIs, CodeAttributesAre, FramesAre};
 ghost use Rattle.class_file.specs.WrittenClass.{handler_bytes, table_bytes, sized_bytes, frames_bytes, code_attributes_bytes, code_bytes};
 ghost use Rattle.class_writer.specs.Indexes.{AreFirst, slots_of};
 ghost use Rattle.class_writer.specs.Fits.{IsSmall, HandlerFits, before_of};
