@@ -15,28 +15,8 @@ use Rattle.class_machine.specs.Core.{Core as MachineCore, state_of, first_core}
 use Rattle.class_machine.specs.Runs.{Wrote, Cut}
 use Rattle.stack_code.specs.Agrees.{IsCompiled, NeverBrokenAt, machine_outcome}
 use Rattle.stack_code.proofs.Agree.{compiled_agrees}
-use Rattle.kc_cli.specs.declared.surface.Source.{Source}
-use Rattle.kc_cli.specs.Elaboration.{main_function, statements_of}
-use Rattle.kc_cli.specs.Form.{Form}
-use Rattle.kc_cli.specs.Compiled.{HasMain}
-use Rattle.kc_cli.specs.Execution.{Builds, Finished, BrokenOff, most_steps}
-
-same_program : (p q : Program) → Some p ≡ Some q → p ≡ q
-same_program p q e = cc
-
-with_parts : (file : ℕ) (source : Source) (program : Program) (o : Option (List Core)) → option_map (λ parts. record { functions = main_function file source parts ∷ [] }) o ≡ Some program → HasMain program
-with_parts file source program (Some parts) e =
-    let is = same_program (record { functions = main_function file source parts ∷ [] }) program e in
-    record {
-      main = main_function file source parts;
-      is = ap (λ (p : Program). slice_get p.functions 0) (sym is);
-      named = refl;
-    }
-with_parts file source program None e = cc
-
--- a program of the form begins with `main`
-pub has_main : (file : ℕ) (bytes : List ℕ) (program : Program) → Form file bytes program → HasMain program
-has_main file bytes program f = with_parts file f.source program (statements_of file bytes f.source.statements) f.elaborates
+use Rattle.form_elaboration.specs.Form.{Form}
+use Rattle.kc_cli.specs.Execution.{Builds, Finished, BrokenOff}
 
 -- the class of a program of the form
 pub builds : (bytes : List ℕ) (program : Program) (set : Set) → Form 0 bytes program → MainFormed program 0 → IsCompiled set program 0 → Builds bytes set
@@ -52,21 +32,21 @@ builds bytes program set f formed c = record {
     unbroken input n at out e = never_broken program 0 formed input n at out e
 
 -- nothing was run
-pub nothing_ran : (set : Set) (told : Option (List ℕ)) → BrokenOff set told told
-nothing_ran set told = record { front = []; taken = sym (appended-nil told); begins = λ input. (written (machine.machine set input most_steps), refl) }
+pub nothing_ran : (set : Set) (steps : ℕ) (told : Option (List ℕ)) → BrokenOff set steps told told
+nothing_ran set steps told = record { front = []; taken = sym (appended-nil told); begins = λ input. (written (machine.machine set input steps), refl) }
 
-module _ (set : Set) (from : Set) (core : MachineCore) (set_is : from ≡ set) (core_is : core ≡ first_core set) (before after : Option (List ℕ)) where
+module _ (set : Set) (steps : ℕ) (from : Set) (core : MachineCore) (set_is : from ≡ set) (core_is : core ≡ first_core set) (before after : Option (List ℕ)) where
   abbrev run : List ℕ → List ℕ → Next
-  run input earlier = on_from from 1000000000 (machine.Going (state_of from core input earlier))
+  run input earlier = on_from from steps (machine.Going (state_of from core input earlier))
 
-  same : (input : List ℕ) → run input [] ≡ machine.machine set input most_steps
-  same input = ap (λ (s : Set). on_from s 1000000000 (machine.Going (state_of s core input []))) set_is ∙ ap (λ (k : MachineCore). on_from set 1000000000 (machine.Going (state_of set k input []))) core_is
+  same : (input : List ℕ) → run input [] ≡ machine.machine set input steps
+  same input = ap (λ (s : Set). on_from s steps (machine.Going (state_of s core input []))) set_is ∙ ap (λ (k : MachineCore). on_from set steps (machine.Going (state_of set k input []))) core_is
 
-  pub finished : (how : Ending) → Wrote before after (λ said. (input earlier : List ℕ) → run input earlier ≡ machine.Over how (earlier ++ said)) → Finished set before after (runs.Over how)
+  pub finished : (how : Ending) → Wrote before after (λ said. (input earlier : List ℕ) → run input earlier ≡ machine.Over how (earlier ++ said)) → Finished set steps before after (runs.Over how)
   finished how w = record { said = w.said; taken = w.taken; comes = λ input. ap machine_outcome (sym (same input) ∙ w.so input []) }
 
-  pub limited : (now : MachineCore) → Wrote before after (λ said. (input earlier : List ℕ) → run input earlier ≡ machine.Going (state_of from now input (earlier ++ said))) → Finished set before after runs.Going
+  pub limited : (now : MachineCore) → Wrote before after (λ said. (input earlier : List ℕ) → run input earlier ≡ machine.Going (state_of from now input (earlier ++ said))) → Finished set steps before after runs.Going
   limited now w = record { said = w.said; taken = w.taken; comes = λ input. ap machine_outcome (sym (same input) ∙ w.so input []) }
 
-  pub broken_off : Cut before after run → BrokenOff set before after
+  pub broken_off : Cut before after run → BrokenOff set steps before after
   broken_off w = record { front = w.front; taken = w.taken; begins = λ input. subst (λ (n : Next). runs.IsPrefix w.front (written n)) (same input) (w.begins input []) }

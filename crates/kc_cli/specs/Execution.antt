@@ -12,11 +12,7 @@ use Rattle.class_file.specs.Machine.{written}
 use Rattle.stack_code.specs.Agrees.{Agrees, NeverBrokenAt, NeverStuckAt, machine_outcome}
 use Rattle.kc_cli.specs.declared.report.Report.{Report}
 use Rattle.kc_cli.specs.declared.report.Report.TheVariants.{Ended, Threw, Refused, Missing, ReadFailed, InputFailed, WriteFailed, StepLimit, Memory}
-use Rattle.kc_cli.specs.Form.{Form}
-
--- the steps that a program may take
-abbrev pub most_steps : ℕ
-most_steps = 1000000000
+use Rattle.form_elaboration.specs.Form.{Form}
 
 -- a folder that tells its files has this one, with these bytes
 abbrev pub HasFile : Option Files → List ℕ → List ℕ → Type 0
@@ -45,28 +41,28 @@ BuildFails file bytes (Refused name line column code) = (name ≡ file) × (line
 BuildFails file bytes Memory = Unit {0}
 BuildFails file bytes _ = ⊥
 
--- the output took what the machine wrote, which ended so for every input
-pub record Finished (set : Set) (before after : Option (List ℕ)) (outcome : List ℕ → runs.Outcome machine.Ending) : Type 0 where
+-- the output took what the machine wrote in so many steps, which ended so for every input
+pub record Finished (set : Set) (steps : ℕ) (before after : Option (List ℕ)) (outcome : List ℕ → runs.Outcome machine.Ending) : Type 0 where
   pub said : List ℕ
   pub taken : after ≡ appended before said
-  pub comes : (input : List ℕ) → machine_outcome (machine.machine set input most_steps) ≡ outcome said
+  pub comes : (input : List ℕ) → machine_outcome (machine.machine set input steps) ≡ outcome said
 
--- the output took a front of what the machine writes
-pub record BrokenOff (set : Set) (before after : Option (List ℕ)) : Type 0 where
+-- the output took a front of what the machine writes in so many steps
+pub record BrokenOff (set : Set) (steps : ℕ) (before after : Option (List ℕ)) : Type 0 where
   pub front : List ℕ
   pub taken : after ≡ appended before front
-  pub begins : (input : List ℕ) → runs.IsPrefix front (written (machine.machine set input most_steps))
+  pub begins : (input : List ℕ) → runs.IsPrefix front (written (machine.machine set input steps))
 
--- What a run of the set is reported as, by the counts of faults of input and output before and after, and by what the output
+-- What a run of the set, of at most so many steps, is reported as, by the counts of faults of input and output before and after, and by what the output
 -- took.
-abbrev pub Runs : Set → ℕ → ℕ → ℕ → ℕ → Option (List ℕ) → Option (List ℕ) → Report → Type 0
-Runs set in_before in_after out_before out_after before after Ended = Finished set before after (runs.Over machine.Ended)
-Runs set in_before in_after out_before out_after before after (Threw class message) = Finished set before after (runs.Over (machine.Threw class message))
-Runs set in_before in_after out_before out_after before after (StepLimit steps) = (steps ≡ most_steps) × Finished set before after runs.Going
-Runs set in_before in_after out_before out_after before after InputFailed = (in_before < in_after) × BrokenOff set before after
-Runs set in_before in_after out_before out_after before after WriteFailed = (out_before < out_after) × BrokenOff set before after
-Runs set in_before in_after out_before out_after before after Memory = BrokenOff set before after
-Runs set in_before in_after out_before out_after before after _ = ⊥
+abbrev pub Runs : Set → ℕ → ℕ → ℕ → ℕ → ℕ → Option (List ℕ) → Option (List ℕ) → Report → Type 0
+Runs set steps in_before in_after out_before out_after before after Ended = Finished set steps before after (runs.Over machine.Ended)
+Runs set steps in_before in_after out_before out_after before after (Threw class message) = Finished set steps before after (runs.Over (machine.Threw class message))
+Runs set steps in_before in_after out_before out_after before after (StepLimit told) = (told ≡ steps) × Finished set steps before after runs.Going
+Runs set steps in_before in_after out_before out_after before after InputFailed = (in_before < in_after) × BrokenOff set steps before after
+Runs set steps in_before in_after out_before out_after before after WriteFailed = (out_before < out_after) × BrokenOff set steps before after
+Runs set steps in_before in_after out_before out_after before after Memory = BrokenOff set steps before after
+Runs set steps in_before in_after out_before out_after before after _ = ⊥
 
 -- a report of a run that no fault broke off
 abbrev pub IsOutcome : Report → Type 0

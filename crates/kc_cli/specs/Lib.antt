@@ -1,10 +1,3 @@
-pub mod Cut
-pub mod Grammar
-pub mod Elaboration
-pub mod Form
-pub mod Pieces
-pub mod Parsed
-pub mod Elaborated
 pub mod ClassName
 pub mod Lines
 pub mod Scan

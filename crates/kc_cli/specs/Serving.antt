@@ -27,12 +27,12 @@ pub record Outside : Type 0 where
   pub taken_before : Option (List ℕ)
   pub taken_after : Option (List ℕ)
 
--- the set was compiled from the named file, and its run is reported so
-pub record Executes (o : Outside) (file : List ℕ) (set : Set) (r : Report) : Type 0 where
+-- the set was compiled from the named file, and its run of at most so many steps is reported so
+pub record Executes (o : Outside) (steps : ℕ) (file : List ℕ) (set : Set) (r : Report) : Type 0 where
   pub bytes : List ℕ
   pub read : HasFile o.files file bytes
   pub builds : Builds bytes set
-  pub runs : Runs set o.in_before o.in_after o.out_before o.out_after o.taken_before o.taken_after r
+  pub runs : Runs set steps o.in_before o.in_after o.out_before o.out_after o.taken_before o.taken_after r
 
 -- the named file's bytes are refused so
 pub record Refuses (o : Outside) (file : List ℕ) (r : Report) : Type 0 where
@@ -42,9 +42,9 @@ pub record Refuses (o : Outside) (file : List ℕ) (r : Report) : Type 0 where
 
 -- What `exec` of a file came to: a run that is over, or is at its limit, with the set that ran; a run that a fault broke off; or
 -- no run, and no output.
-abbrev pub ExecDid : Outside → List ℕ → Report → Option Set → Type 0
-ExecDid o file r (Some set) = IsOutcome r × Executes o file set r
-ExecDid o file r None = ((set : Set) × (¬ (IsOutcome r)) × Executes o file set r) ⊎ ((o.taken_after ≡ o.taken_before) × (ReadFails o.files o.tree_before o.tree_after file r ⊎ Refuses o file r))
+abbrev pub ExecDid : Outside → ℕ → List ℕ → Report → Option Set → Type 0
+ExecDid o steps file r (Some set) = IsOutcome r × Executes o steps file set r
+ExecDid o steps file r None = ((set : Set) × (¬ (IsOutcome r)) × Executes o steps file set r) ⊎ ((o.taken_after ≡ o.taken_before) × (ReadFails o.files o.tree_before o.tree_after file r ⊎ Refuses o file r))
 
 -- the set is handed out where its run is over or at its limit
 abbrev pub ran_set : Report → Set → Option Set
@@ -56,7 +56,7 @@ ran_set _ set = None
 -- what the words came to: what they command, or no output where they command nothing
 abbrev pub Did : List (List ℕ) → Outside → Report → Option Set → Type 0
 Did words o r ran =
-    ((file : List ℕ) × IsCommand words (Exec file) × ExecDid o file r ran)
+    ((steps : ℕ) × (file : List ℕ) × IsCommand words (Exec steps file) × ExecDid o steps file r ran)
     ⊎ (((command : Command) → ¬ (IsCommand words command)) × (r ≡ report.Words) × (ran ≡ None) × (o.taken_after ≡ o.taken_before))
 
 -- the status where the line of a report cannot be written; want of memory stays what it is

@@ -2,7 +2,8 @@
 
 ghost use Rattle.std.specs.Prelude.{◌≡◌, ◌∷◌, [], IfOk, codes};
 ghost use Rattle.stack_code.specs.Agrees.{IsCompiled, IsOwnName};
-ghost use Rattle.kc_cli.specs.Compiled.{HasMain, HasShortCode};
+ghost use Rattle.form_elaboration.specs.Laws.{HasMain};
+ghost use Rattle.kc_cli.specs.Compiled.{HasShortCode};
 
 use class_file::class::{ClassFile, Method, Set};
 use class_file::pool::Pool;
@@ -46,8 +47,8 @@ fn class_of(alloc: Global, name: Text, pool: Pool, method: Method) -> Result<Cla
 
 /// The class of this name, with the program's `main` as its one method, as a set of its own.
 ///
-/// It is `TooLarge` only where the code has more than 65,535 instructions, `main` more than 65,535 locals, the class more
-/// than 65,534 constants, or a jump more than 32,767 bytes to pass.
+/// It is `TooLarge` only where the code has more than 65,535 bytes, `main` more than 65,535 locals or operands at once, the class
+/// more than 65,534 constants, or a jump more than 32,767 bytes to pass.
 pub fn compile(alloc: Global, program: &Program, name: Text) -> Result<Set, Fail<TooLarge>>
     requires main { HasMain program.now }
     requires own { IsOwnName name }

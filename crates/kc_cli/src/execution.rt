@@ -9,17 +9,14 @@ ghost use Rattle.kc_cli.specs.Execution.{HasFile, ReadFails, Builds, BuildFails,
 ghost use Rattle.kc_cli.specs.Serving.{ExecDid, ran_set};
 
 use crate::compile::compile;
-use crate::form::read_form;
 use crate::{Code, Name, Report, class_name};
 use class_file::class::Set;
 use class_machine::{Machine, RunEnd, first_lot_is_built};
+use form_elaboration::read_form;
 use kc_io::{Folder, FolderRead, Sink, Source};
 use kc_text::{Fail, Memory};
 use stack_code::method::{compiled_is_first_lot, files_have_own_names};
 use std::alloc::Global;
-
-// The steps that a program may take.
-const MOST_STEPS: u64 = 1_000_000_000;
 
 // The bytes of a file.
 fn read_file<'a, T: Folder>(
@@ -76,17 +73,18 @@ fn build<'a>(alloc: Global, file: &Name<'a>, bytes: &[u8]) -> Result<Set, Report
     }
 }
 
-// The machine on a set.
+// The machine on a set, for at most so many steps.
 fn run_set<I: Source, O: Sink>(
     alloc: Global,
     set: &Set,
+    steps: u64,
     input: &mut I,
     out: &mut O,
 ) -> Report<'static>
     requires short { HasShortCode set.now }
     requires lot { IsFirstLot set.now }
     requires unstuck { (input : List ℕ) → NeverStuckAt set.now input }
-    ensures ran { Runs set.now (I.faults input.old) (I.faults input.new) (O.faults out.old) (O.faults out.new) (O.taken out.old) (O.taken out.new) result }
+    ensures ran { Runs set.now steps (I.faults input.old) (I.faults input.new) (O.faults out.old) (O.faults out.new) (O.taken out.old) (O.taken out.new) result }
     ensures input { input.new ≡ input.old }
     ensures faults { O.faults out.old ≤ O.faults out.new }
 {
@@ -95,10 +93,10 @@ fn run_set<I: Source, O: Sink>(
         Ok(machine) => machine,
         Err(_) => return Report::Memory,
     };
-    match machine.run(alloc, MOST_STEPS, input, out) {
+    match machine.run(alloc, steps, input, out) {
         RunEnd::Ended => Report::Ended,
         RunEnd::Threw { class, message } => Report::Threw { class, message },
-        RunEnd::StepLimit => Report::StepLimit { steps: MOST_STEPS },
+        RunEnd::StepLimit => Report::StepLimit { steps },
         RunEnd::ReadFault => Report::InputFailed,
         RunEnd::WriteFault => Report::WriteFailed,
         RunEnd::Memory => Report::Memory,
@@ -134,16 +132,17 @@ fn with_set(report: Report<'static>, set: Set) -> Outcome<'static>
     }
 }
 
-/// Reads, compiles and runs a file.
+/// Reads and compiles a file, and runs it for at most so many steps.
 pub fn exec<'a, T: Folder, I: Source, O: Sink>(
     alloc: Global,
+    steps: u64,
     file: &Name<'a>,
     tree: &mut T,
     input: &mut I,
     out: &mut O,
 ) -> Outcome<'a>
     requires { IsSourceFile file.now }
-    ensures did { ExecDid (record { files = T.files tree.old; tree_before = T.faults tree.old; tree_after = T.faults tree.new; in_before = I.faults input.old; in_after = I.faults input.new; out_before = O.faults out.old; out_after = O.faults out.new; taken_before = O.taken out.old; taken_after = O.taken out.new }) file.now result.report result.ran }
+    ensures did { ExecDid (record { files = T.files tree.old; tree_before = T.faults tree.old; tree_after = T.faults tree.new; in_before = I.faults input.old; in_after = I.faults input.new; out_before = O.faults out.old; out_after = O.faults out.new; taken_before = O.taken out.old; taken_after = O.taken out.new }) steps file.now result.report result.ran }
     ensures files { T.files tree.new ≡ T.files tree.old }
     ensures input { input.new ≡ input.old }
 {
@@ -155,6 +154,6 @@ pub fn exec<'a, T: Folder, I: Source, O: Sink>(
         Ok(set) => set,
         Err(report) => return without_set(report),
     };
-    let report = run_set(alloc, &set, input, out);
+    let report = run_set(alloc, &set, steps, input, out);
     with_set(report, set)
 }

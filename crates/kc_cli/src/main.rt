@@ -2,19 +2,14 @@
 #![tactic(auto)]
 
 mod compile;
-mod elaboration;
 mod execution;
 mod file_class;
-mod form;
-mod parser;
 mod report;
 mod source_file;
 mod status;
 mod steps;
-mod surface;
 #[cfg(test)]
 mod tests;
-mod tokens;
 mod top;
 mod words;
 
@@ -23,7 +18,6 @@ ghost use Rattle.std.specs.Prelude.{◌≡◌, ◌<◌};
 pub use compile::compile;
 pub use execution::{Outcome, exec};
 pub use file_class::class_name;
-pub use form::{form_is_determined, read_form};
 use kc_io::{DiskFolder, StdSink, StdSource};
 pub use report::{Code, Report, fixed_line, line_of};
 pub use status::Status;

@@ -81,7 +81,7 @@ fn serve<'a, T: Folder, I: Source, O: Sink>(
     ensures input { input.new ≡ input.old }
 {
     match command_of(words) {
-        Some(Command::Exec { file }) => exec(alloc, &file, tree, input, out),
+        Some(Command::Exec { steps, file }) => exec(alloc, steps, &file, tree, input, out),
         None => Outcome {
             report: Report::Words,
             ran: None,

@@ -193,6 +193,91 @@ fn serves_commands(rt: HostRuntime) -> Result<(), Fail> {
 }
 
 #[test]
+fn runs_choices_and_loops(rt: HostRuntime) -> Result<(), Fail> {
+    let programs = [
+        (
+            "fun main() { var n = 3\n while (n > 0) { println(n); n = n - 1 }\n }",
+            "3\n2\n1\n",
+        ),
+        (
+            "fun main() {\n  val t = true; val f = 1 > 2\n  println(t && f || !f)\n  println(f && 1 / 0 == 0)\n  println(t || 1 / 0 == 0)\n  println(1 != 2 && !(1 >= 2))\n}",
+            "true\nfalse\ntrue\ntrue\n",
+        ),
+        (
+            "fun main() {\n  var a = 0\n  while (a < 3) {\n    var b = 0\n    while (b <= a) { if (b == a) println(a) else if (b == 0) println(-a)\n      b = b + 1 }\n    a = a + 1\n  }\n}",
+            "0\n-1\n1\n-2\n2\n",
+        ),
+        (
+            "fun main() {\n  if (true) { val x = 1; println(x) } else println(2)\n  if (false) println(3)\n  else { val x = false; println(x) }\n  while (false) println(4)\n}",
+            "1\nfalse\n",
+        ),
+    ];
+    for (file, out) in &programs {
+        let seen = served(rt.alloc(), &["exec", "one.kt"], file, NO_FAULTS)?;
+        assert_eq!(rt; seen.out.as_slice(), out.as_bytes());
+        assert!(rt; seen.status == Status::Ended);
+    }
+    Ok(())
+}
+
+#[test]
+fn refuses_faults_of_types_and_scopes(rt: HostRuntime) -> Result<(), Fail> {
+    let bodies = [
+        "val x = 1; x = 2",
+        "var x = 1; x = true",
+        "x = 1",
+        "val x = x",
+        "val x = 1; val x = 2",
+        "val x = 1; if (true) { val x = 2 }",
+        "if (true) { val x = 2 }; println(x)",
+        "if (1) println(1)",
+        "while (0) println(1)",
+        "println(true + 1)",
+        "println(!1)",
+        "println(-true)",
+        "println(true == false)",
+        "println(1 < 2 < 3)",
+        "println(1 && true)",
+        "println(\"x\")",
+    ];
+    for body in bodies {
+        let file = format!(in rt.alloc(); "fun main() {{ {body} }}")?;
+        let seen = served(rt.alloc(), &["exec", "one.kt"], file.as_str(), NO_FAULTS)?;
+        assert_eq!(rt;
+            seen.err.as_slice(),
+            b"one.kt:1:1: NotBuilt\n".as_slice(),
+            "of {body}"
+        );
+        assert!(rt; seen.status == Status::Refused);
+    }
+    Ok(())
+}
+
+// A turn of this loop is six instructions, the fifth of which writes the line; the call of `main` comes before the first.
+#[test]
+fn stops_at_the_limit(rt: HostRuntime) -> Result<(), Fail> {
+    let counts = [
+        ("1", 0),
+        ("5", 0),
+        ("6", 1),
+        ("11", 1),
+        ("12", 2),
+        ("1000", 166),
+    ];
+    for (count, lines) in counts {
+        let words = &["exec", "--steps", count, "one.kt"];
+        let file = "fun main() { while (true) println(1) }";
+        let seen = served(rt.alloc(), words, file, NO_FAULTS)?;
+        let err = format!(in rt.alloc(); "steps: {count}\n")?;
+        assert_eq!(rt; seen.out.len(), 2 * lines, "of {count}");
+        assert_eq!(rt; seen.err.as_slice(), err.as_bytes());
+        assert!(rt; seen.status == Status::StepLimit);
+        assert!(rt; seen.runs);
+    }
+    Ok(())
+}
+
+#[test]
 fn reports_faults(rt: HostRuntime) -> Result<(), Fail> {
     let file = "fun main() {\n  println(1)\n  println(2)\n}";
     let cases = [

@@ -1,6 +1,6 @@
 //! Files that are of the form, with the shapes of their programs, and files that are not.
 
-use crate::read_form;
+use form_elaboration::read_form;
 use kc_core::tree::{BinaryOp, Core, Kind, Program};
 use std::alloc::{AllocError, Global};
 use std::test::Fail;
@@ -122,6 +122,8 @@ fn files_of_the_form(rt: HostRuntime) {
         "\t fun\x0cmain() {println(1)\rprintln(2)}",
         "fun main() { val funny = 1\n println(funny%2*(3)-funny) }",
         "fun main() { val _x1 = 1\n val x_1 = _x1 }",
+        "fun main() { val x = 1; println(x) }",
+        "fun main() { val x = 1 < 2 }",
     ] {
         assert!(rt; read_form(rt.alloc(), 0, text.as_bytes()).is_ok(), "{text}");
     }
@@ -136,7 +138,6 @@ fn files_of_another_form(rt: HostRuntime) {
         "fun main() { val x = 1\n val x = 2 }",
         "fun main() { println(x)\n val x = 1 }",
         "fun main() { val x = 1 println(x) }",
-        "fun main() { val x = 1; println(x) }",
         "fun main() { println\n(1) }",
         "fun main() { println(1)\n+ 2 }",
         "fun main() { println(1) + 2 }",
@@ -178,7 +179,7 @@ fn files_of_another_form(rt: HostRuntime) {
         "fun main() { println(\"a\") }",
         "fun main() { println('a') }",
         "fun main() { val é = 1 }",
-        "fun main() { val x = 1 < 2 }",
+        "fun main() { val x = 1 < 2 < 3 }",
         "fun main() { 1 }",
         "funmain() { }",
         "fun main() { valx = 1 }",

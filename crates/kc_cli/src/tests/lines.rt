@@ -38,10 +38,53 @@ fn takes_exec_with_a_source_file(rt: HostRuntime) -> Result<(), Fail> {
     ];
     for file in files {
         let words = owned_words(rt.alloc(), &["exec", file])?;
-        let Some(Command::Exec { file: taken }) = command_of(&words) else {
+        let Some(Command::Exec { steps, file: taken }) = command_of(&words) else {
             return Err(Fail::from("a command"));
         };
+        assert_eq!(rt; steps, 1_000_000_000);
         assert_eq!(rt; taken.as_str(), file);
+    }
+    Ok(())
+}
+
+#[test]
+fn takes_a_count_of_steps(rt: HostRuntime) -> Result<(), Fail> {
+    let counts = [
+        ("1", 1),
+        ("1000", 1000),
+        ("1000000000000", 1_000_000_000_000),
+    ];
+    for (word, count) in counts {
+        let words = owned_words(rt.alloc(), &["exec", "--steps", word, "one.kt"])?;
+        let Some(Command::Exec { steps, file }) = command_of(&words) else {
+            return Err(Fail::from("a command"));
+        };
+        assert_eq!(rt; steps, count);
+        assert_eq!(rt; file.as_str(), "one.kt");
+    }
+    Ok(())
+}
+
+#[test]
+fn refuses_other_counts(rt: HostRuntime) -> Result<(), Fail> {
+    let counts = [
+        "",
+        "0",
+        "00",
+        "01",
+        "+1",
+        "-1",
+        " 1",
+        "1 ",
+        "1_000",
+        "0x10",
+        "1000000000001",
+        "18446744073709551617",
+        "one.kt",
+    ];
+    for word in counts {
+        let words = owned_words(rt.alloc(), &["exec", "--steps", word, "one.kt"])?;
+        assert!(rt; command_of(&words).is_none(), "of {word:?}");
     }
     Ok(())
 }
@@ -85,8 +128,14 @@ fn refuses_other_files(rt: HostRuntime) -> Result<(), Fail> {
 
 #[test]
 fn refuses_other_words(rt: HostRuntime) -> Result<(), Fail> {
-    let lines: [&[&str]; 9] = [
+    let lines: [&[&str]; 15] = [
         &[],
+        &["exec", "--steps", "one.kt"],
+        &["exec", "--steps", "5"],
+        &["exec", "--steps=5", "one.kt"],
+        &["exec", "one.kt", "--steps", "5"],
+        &["exec", "-steps", "5", "one.kt"],
+        &["exec", "--steps", "5", "one.kt", "two.kt"],
         &["exec"],
         &["one.kt"],
         &["one.kt", "exec"],
@@ -115,7 +164,7 @@ fn names_the_class_of_a_file(rt: HostRuntime) -> Result<(), Fail> {
     ];
     for (file, class) in names {
         let words = owned_words(rt.alloc(), &["exec", file])?;
-        let Some(Command::Exec { file }) = command_of(&words) else {
+        let Some(Command::Exec { steps: _, file }) = command_of(&words) else {
             return Err(Fail::from("a command"));
         };
         let name = class_name(rt.alloc(), file.as_str())?;

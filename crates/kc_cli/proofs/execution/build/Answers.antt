@@ -1,11 +1,11 @@
 use Rattle.std.proofs.Common.{sym, subst}
 use Rattle.stack_code.specs.Agrees.{IsOwnName}
 use Rattle.kc_cli.specs.ClassName.{capitalized, last_part_of, without_ending}
-use Rattle.kc_cli.proofs.Executing.{has_main, builds}
+use Rattle.kc_cli.proofs.Executing.{builds}
 use Rattle.kc_cli.proofs.execution.build.Goals as goal
 
 pub compile-requires-clause-main : goal.compile-requires-clause-main
-compile-requires-clause-main c = has_main 0 c.args.bytes.now c.in-Ok.program c.in-Ok.ensures.reads
+compile-requires-clause-main c = c.in-Ok.ensures.main.has_main
 
 pub compile-requires-clause-own : goal.compile-requires-clause-own
 compile-requires-clause-own c =

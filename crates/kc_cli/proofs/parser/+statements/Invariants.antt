@@ -1,5 +1,0 @@
-use Rattle.std.proofs.Common.{length}
-use Rattle.kc_cli.proofs.parser.+statements.Given as goal
-
-abbrev pub decreases-statements : goal.decreases-statements
-decreases-statements l = length l.tokens.now
