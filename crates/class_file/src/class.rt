@@ -3,6 +3,7 @@
 use crate::instr::Instr;
 use crate::pool::Pool;
 use kc_text::Text;
+use shared_list::SharedList;
 use sqlite_items::Items;
 
 /// An attribute that is only kept: its name and its bytes.
@@ -44,11 +45,12 @@ pub enum VType {
 }
 
 /// A frame that a method gives (4.7.4), at a place in bytes. A `Long` is one entry of `locals` and of `stack`. `unset` says that
-/// the method is a constructor that has not called another constructor yet.
+/// the method is a constructor that has not called another constructor yet. Frames share the locals that they have in common, so
+/// that a method's frames take memory linear in the bytes that spell them.
 #[derive(Drop)]
 pub struct Frame {
     pub at: usize,
-    pub locals: Items<VType>,
+    pub locals: SharedList<VType>,
     pub stack: Items<VType>,
     pub unset: bool,
 }

@@ -2,14 +2,12 @@
 
 ghost use Rattle.std.specs.Prelude.{◌≡◌, true, false, Some, IfOk, map, slice_get};
 ghost use Rattle.std.specs.List.{list_all};
-ghost use Rattle.class_file.specs.Classes.{is_special_name};
 ghost use Rattle.class_file.specs.Pools.{entry_at, name_in, typed_in, named};
 ghost use Rattle.class_machine.specs.Building.{is_signed, owns_in, is_own_call, is_call_of, is_call, is_set, row_is_built, instr_is_built, handler_is_built, method_is_built, class_is_built, set_is_built, main_member};
 ghost use Rattle.class_machine.specs.Lot.{IsBuilt, is_built};
 ghost use Rattle.class_soundness.specs.Soundness.{IsLoaded};
-ghost use Rattle.verifier.specs.Whole.{has_code_at};
 
-use crate::linking::{caught, is_text, name_at, native_named, static_named, text_at};
+use crate::linking::{caught, is_text, name_at, native_named, text_at};
 use crate::links::Caught;
 use class_file::class::{ClassFile, Handler, Method, Set};
 use class_file::instr::Instr;
@@ -18,13 +16,11 @@ use class_file::row::Row;
 use class_file::table::row_of;
 use kc_text::{Memory, Text};
 use std::alloc::Global;
-use verifier::is_reserved;
-use verifier_types::{NamedSet, described};
+use verifier::{has_code_at, is_reserved, static_named};
+use verifier_types::{NamedSet, described, is_special_name};
 
-// ACC_INTERFACE and ACC_ABSTRACT (Java Virtual Machine Specification SE 8, 4.1 and 4.6).
+// ACC_INTERFACE (Java Virtual Machine Specification SE 8, 4.1).
 const INTERFACE: u16 = 0x0200;
-
-const ABSTRACT: u16 = 0x0400;
 
 // ---- calls
 
@@ -36,27 +32,6 @@ fn is_signed(alloc: Global, descriptor: &Text) -> Result<bool, Memory>
     let has_parts = !(call.params.len() == 0)
         || (call.result.is_some() || is_text(descriptor, b"()V"));
     Ok(has_parts)
-}
-
-fn is_special_name(name: &[u16]) -> bool
-    ensures { result ≡ is_special_name name.now }
-{
-    match name {
-        [] => false,
-        [first, ..] => *first == 60,
-    }
-}
-
-fn has_code_at(methods: &[Method], place: Option<usize>) -> bool
-    ensures { result ≡ has_code_at methods.now place }
-{
-    let Some(place) = place else {
-        return false;
-    };
-    match methods.get(place) {
-        Some(method) => !(method.flags & ABSTRACT != 0),
-        None => false,
-    }
 }
 
 // Is the class right below Object, and has it this static method itself, with code?

@@ -16,6 +16,7 @@ use class_file::table::{length_of, row_of};
 use class_file::value::NativeId;
 use kc_text::{Memory, Text};
 use std::alloc::Global;
+use verifier::static_named;
 use verifier_types::described;
 
 // The number of the first class of exceptions, which is Throwable.
@@ -284,14 +285,6 @@ fn class_named(name: &Text, classes: &[ClassFile]) -> Option<usize>
     ensures { result ≡ class_named name.now classes.now }
 {
     classes.iter().position(|class| class.this_name == *name)
-}
-
-// The first static method of this name and descriptor.
-pub fn static_named(name: &Text, descriptor: &Text, methods: &[Method]) -> Option<usize>
-    ensures { result ≡ static_named name.now descriptor.now methods.now }
-{
-    methods.iter().position(|method| method.flags & 0x0008 != 0
-        && (method.name == *name && method.descriptor == *descriptor))
 }
 
 fn plain_static_named(name: &[u8], methods: &[Method]) -> Option<usize>

@@ -6,6 +6,7 @@ use class_file::instr::Instr;
 use class_file::pool::{Entry, Pool};
 use kc_io::{MemorySink, MemorySource};
 use kc_text::{Fail, Memory, Text};
+use shared_list::SharedList;
 use sqlite_items::Items;
 use std::alloc::Global;
 use std::test::Fail as Failed;
@@ -86,7 +87,7 @@ fn frames_of(alloc: Global, handler: Option<Handler>) -> Result<Items<Frame>, Me
         stack.push(VType::Object(Text::from_str(alloc, "java/lang/ArithmeticException")?))?;
         frames.push(Frame {
             at: handler.at,
-            locals: Items::new(alloc),
+            locals: SharedList::new(alloc)?,
             stack,
             unset: false,
         })?;

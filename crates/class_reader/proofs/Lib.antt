@@ -11,3 +11,4 @@ pub mod Prefix
 pub mod Pieces
 pub mod Places
 pub mod Spelling
+pub mod Unset

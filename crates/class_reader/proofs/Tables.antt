@@ -1,8 +1,7 @@
 -- Things that are read in the light of those before them.
-use Rattle.std.proofs.Common.{◌≡◌, ℕ, zero, suc, ◌-◌, ◌+◌, ◌≤◌, ◌<◌, Bool, true, false, cond, eqb, List, [], ◌∷◌, ◌++◌, length, get_or, refl, sym, ap, ◌∙◌, arith}
+use Rattle.std.proofs.Common.{◌≡◌, ℕ, zero, suc, ◌-◌, ◌+◌, ◌≤◌, ◌<◌, Bool, true, false, cond, eqb, List, [], ◌∷◌, ◌++◌, length, refl, sym, ap, ◌∙◌, arith}
 use Rattle.std.proofs.lemmas.Bool.{eqb-true}
 use Rattle.std.proofs.lemmas.List.{append-nil}
-use Rattle.class_file.specs.declared.class.VType.{VType}
 use Rattle.class_file.specs.declared.class.Frame.{Frame}
 use Rattle.class_file.specs.declared.instr.Instr.{Instr}
 use Rattle.class_file.specs.declared.format_fault.FormatFault.{FormatFault}
@@ -13,7 +12,7 @@ use Rattle.class_file.specs.Inputs.{◌>>=◌, Input, Reading, read}
 use Rattle.class_file.specs.ClassBytes.{behind_frame}
 use Rattle.class_file.specs.FormatFaults.{field_at, fields_at, method_at, methods_at, frame_at, frames_at, instruction_at, instructions_at}
 use Rattle.class_reader.specs.Reads.{Fails}
-use Rattle.class_reader.specs.Frames.{before, last_locals}
+use Rattle.class_reader.specs.Frames.{before}
 use Rattle.class_reader.specs.Members.{key}
 use Rattle.class_reader.proofs.Loops.{with_front, regroup}
 
@@ -63,23 +62,12 @@ module _ {A S : Type 0} {one : S → Input → Reading A} {next : S → A → S}
       ∙ ap (with_front front) (is.none s input)
       ∙ ap (λ (xs : List A). read xs input) (append-nil front)
 
-pub last_pushed : (start : List VType) (frames : List Frame) (f : Frame) → last_locals start (frames ++ f ∷ []) ≡ f.locals
-last_pushed start [] f = refl
-last_pushed start (g ∷ gs) f = last_pushed g.locals gs f
-
-pub last_is : (start : List VType) (frames : List Frame) (f : Frame) → 1 ≤ length frames → f ≡ get_or frames (length frames - 1) f → f.locals ≡ last_locals start frames
-last_is start [] f le e = absurd (omega arith)
-last_is start (g ∷ []) f le e = ap (λ (x : Frame). x.locals) e
-last_is start (g ∷ h ∷ fs) f le e =
-    let place : length (g ∷ h ∷ fs) - 1 ≡ suc (length (h ∷ fs) - 1) = omega arith in
-    last_is g.locals (h ∷ fs) f (omega arith) (e ∙ ap (λ (n : ℕ). get_or (g ∷ h ∷ fs) n f) place)
-
 -- what the next frame is told against
-pub next_before : (start : List VType) (frames : List Frame) (f : Frame) → behind_frame f ≡ before (f.at + 1) (last_locals start (frames ++ f ∷ []))
-next_before start frames f = rw (last_pushed start frames f) (refl_at (f.at + 1) (omega arith))
+pub next_before : (f : Frame) → behind_frame f ≡ before (f.at + 1) f.locals
+next_before f = from (f.at + 1) (omega arith)
   where
-    refl_at : (n : ℕ) → n ≡ suc f.at → behind_frame f ≡ before n f.locals
-    refl_at n e = sym (ap (λ (m : ℕ). before m f.locals) e)
+    from : (n : ℕ) → n ≡ suc f.at → behind_frame f ≡ before n f.locals
+    from n e = sym (ap (λ (m : ℕ). before m f.locals) e)
 
 -- ---- instructions
 

@@ -1,9 +1,7 @@
 -- What frames are told against, as the reader keeps it.
-use Rattle.std.specs.Prelude.{ℕ, zero, suc, ◌+◌, ◌-◌, List, [], ◌∷◌, Option, Some, None, Bool, ◌&&◌, ◌||◌, nat_lt}
+use Rattle.std.specs.Prelude.{ℕ, zero, suc, ◌+◌, ◌-◌, List, Option, Some, None, Bool, ◌&&◌, ◌||◌, nat_lt}
 use Rattle.class_file.specs.declared.class.VType.{VType}
-use Rattle.class_file.specs.declared.class.Frame.{Frame}
 use Rattle.class_file.specs.ClassBytes.{Before}
-use Rattle.class_reader.specs.declared.frames.Before as kept
 
 -- the place of the frame before, from the first place that a frame can have
 abbrev pub place_before : ℕ → Option ℕ
@@ -13,16 +11,8 @@ place_before (suc n) = Some n
 abbrev pub before : ℕ → List VType → Before
 before first locals = record { at = place_before first; locals = locals }
 
-abbrev pub before_of : kept.Before → Before
-before_of b = before b.first b.locals.now
-
 abbrev pub started : List VType → Before
 started locals = record { at = None; locals = locals }
-
--- the locals of the last frame, or those that the method starts with
-abbrev pub last_locals : List VType → List Frame → List VType
-last_locals start [] = start
-last_locals start (f ∷ fs) = last_locals f.locals fs
 
 -- no form, or one that takes away more locals than there are or adds more than a frame can have
 abbrev pub is_bad_form : ℕ → ℕ → Bool

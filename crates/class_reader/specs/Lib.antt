@@ -3,5 +3,6 @@ pub mod Descriptors
 pub mod Pools
 pub mod Forms
 pub mod Frames
+pub mod Locals
 pub mod Codes
 pub mod Members

@@ -12,8 +12,9 @@ use crate::attributes::{attribute, is_refused, kept_bytes};
 use crate::frames::stack_map_at;
 use crate::input::{Failure, Input, ended, fault, part_at, u2_at, u4_at};
 use crate::instructions::code_array_at;
+use crate::locals::FrameLocals;
 use crate::names::{catch_type_at, text_named};
-use class_file::class::{Attribute, Frame, Handler, VType};
+use class_file::class::{Attribute, Frame, Handler};
 use class_file::format_fault::FormatCode;
 use class_file::instr::Instr;
 use class_file::pool::Pool;
@@ -99,7 +100,7 @@ fn is_stack_map_table(name: &Text) -> bool
 fn sized_frames<'b>(
     alloc: Global,
     pool: &Pool,
-    start: &[VType],
+    start: &FrameLocals,
     input: Input<'b>,
 ) -> Result<(Items<Frame>, Input<'b>), Failure>
     ensures { Reads (λ frames. frames) result (sized (stack_map_at pool.now (started start.now)) (input_of input.entry)) }
@@ -115,7 +116,7 @@ fn sized_frames<'b>(
 fn each_attribute<'b>(
     alloc: Global,
     pool: &Pool,
-    start: &[VType],
+    start: &FrameLocals,
     count: u16,
     input: Input<'b>,
 ) -> Result<(Attributes<Items<Frame>>, Input<'b>), Failure>
@@ -156,7 +157,7 @@ fn or_none(alloc: Global, frames: Option<Items<Frame>>) -> Items<Frame>
 pub fn code_at<'b>(
     alloc: Global,
     pool: &Pool,
-    start: &[VType],
+    start: &FrameLocals,
     input: Input<'b>,
 ) -> Result<(Code, Input<'b>), Failure>
     ensures { Reads code_of result (code_at pool.now (started start.now) (input_of input.entry)) }

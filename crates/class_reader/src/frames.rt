@@ -1,12 +1,13 @@
 //! Frames from bytes (Java Virtual Machine Specification SE 8, 4.7.4).
-ghost use Rattle.std.specs.Prelude.{◌≡◌, ◌+◌, ◌-◌, ◌*◌, ◌<◌, ◌≤◌, ◌^◌, IfOk, [], ◌∷◌, length, take, false};
+ghost use Rattle.std.specs.Prelude.{◌≡◌, ◌+◌, ◌-◌, ◌*◌, ◌<◌, ◌≤◌, ◌^◌, IfOk, [], ◌∷◌, length, false};
 ghost use Rattle.class_file.specs.Inputs.{each, table};
 ghost use Rattle.class_file.specs.FormatFaults.{object_at, uninitialized_at, type_at, frame, one_item, full_frame, more_locals, long_form, frame_at, frames_at, stack_map_at};
 ghost use Rattle.class_reader.specs.Reads.{Reads, input_of};
-ghost use Rattle.class_reader.specs.Frames.{before_of, started, last_locals, is_bad_form};
+ghost use Rattle.class_reader.specs.Frames.{before, started, is_bad_form};
+ghost use Rattle.class_reader.specs.Locals.{Appends};
 
 use crate::input::{Failure, Input, fault, u1_at, u2_at};
-use crate::locals::{copied, has_unset, with_more, without_last};
+use crate::locals::FrameLocals;
 use crate::names::type_named;
 use class_file::class::{Frame, VType};
 use class_file::format_fault::FormatCode;
@@ -14,15 +15,6 @@ use class_file::pool::Pool;
 use kc_text::Memory;
 use sqlite_items::Items;
 use std::alloc::Global;
-
-/// What a frame is told against.
-#[derive(Clone, Copy)]
-pub struct Before<'a> {
-    /// The first place that the frame can have, in bytes.
-    pub first: usize,
-    /// The local variables of the frame before, or those that the method starts with.
-    pub locals: &'a [VType],
-}
 
 fn object_at<'b>(
     alloc: Global,
@@ -99,81 +91,107 @@ fn one(alloc: Global, kept: VType) -> Result<Items<VType>, Memory>
     Ok(types)
 }
 
-fn frame(before: Before, delta: u16, locals: Items<VType>, stack: Items<VType>) -> Frame
-    requires { before.first < 2 ^ 62 }
-    ensures { result ≡ frame (before_of before.entry) delta locals stack }
+// Each type goes behind the local variables.
+fn push_each<'b>(
+    alloc: Global,
+    pool: &Pool,
+    locals: &mut FrameLocals,
+    count: u16,
+    input: Input<'b>,
+) -> Result<Input<'b>, Failure>
+    ensures { Appends locals.old locals.new result (each (type_at pool.now) count (input_of input.entry)) }
 {
-    let unset = has_unset(locals.as_slice());
-    Frame {
-        at: before.first + delta as usize,
-        locals,
-        stack,
-        unset,
+    let mut rest = input;
+    for _ in 0..count {
+        let (kept, behind) = type_at(alloc, pool, rest)?;
+        locals.push(alloc, kept)?;
+        rest = behind;
     }
+    Ok(rest)
 }
 
-fn same_frame(alloc: Global, before: Before, delta: u16) -> Result<Frame, Memory>
-    requires { before.first < 2 ^ 62 }
-    ensures { IfOk result (λ f. f ≡ frame (before_of before.entry) delta before.entry.locals.now []) }
+#[tactic(auto, using(crate::proofs::Unset::nothing_before), unfolding(class_file::specs::Inputs::table))]
+fn locals_at<'b>(
+    alloc: Global,
+    pool: &Pool,
+    input: Input<'b>,
+) -> Result<(FrameLocals, Input<'b>), Failure>
+    ensures { Reads (λ locals. locals) result (table (type_at pool.now) (input_of input.entry)) }
 {
-    let locals = copied(alloc, before.locals)?;
-    Ok(frame(before, delta, locals, Items::new(alloc)))
+    let mut locals = FrameLocals::new(alloc)?;
+    let (count, rest) = u2_at(input)?;
+    let rest = push_each(alloc, pool, &mut locals, count, rest)?;
+    Ok((locals, rest))
 }
 
-fn chopped_frame(alloc: Global, before: Before, delta: u16, gone: usize) -> Result<Frame, Memory>
-    requires small { before.first < 2 ^ 62 }
-    requires there { gone ≤ length before.locals.now }
-    ensures { IfOk result (λ f. f ≡ frame (before_of before.entry) delta (take (length before.entry.locals.now - gone) before.entry.locals.now) []) }
+// The frame with these local variables; `first` is the first place that it can have, in bytes.
+fn frame(
+    first: usize,
+    locals: &FrameLocals,
+    delta: u16,
+    stack: Items<VType>,
+) -> Result<Frame, Memory>
+    requires { first < 2 ^ 62 }
+    ensures { IfOk result (λ f. f ≡ frame (before first locals.now) delta locals.now stack) }
 {
-    let locals = without_last(alloc, before.locals, gone)?;
-    Ok(frame(before, delta, locals, Items::new(alloc)))
+    Ok(Frame {
+        at: first + delta as usize,
+        locals: locals.types()?,
+        stack,
+        unset: locals.has_unset(),
+    })
 }
 
 fn one_item<'b>(
     alloc: Global,
     pool: &Pool,
-    before: Before,
+    first: usize,
+    locals: &FrameLocals,
     delta: u16,
     input: Input<'b>,
 ) -> Result<(Frame, Input<'b>), Failure>
-    requires { before.first < 2 ^ 62 }
-    ensures { Reads (λ f. f) result (one_item pool.now (before_of before.entry) delta (input_of input.entry)) }
+    requires { first < 2 ^ 62 }
+    ensures exact { Reads (λ f. f) result (one_item pool.now (before first locals.now) delta (input_of input.entry)) }
+    ensures locals { IfOk result (λ x. x.0.locals ≡ locals.now) }
 {
     let (item, rest) = type_at(alloc, pool, input)?;
-    let locals = copied(alloc, before.locals)?;
     let stack = one(alloc, item)?;
-    Ok((frame(before, delta, locals, stack), rest))
+    Ok((frame(first, locals, delta, stack)?, rest))
 }
 
 fn full_frame<'b>(
     alloc: Global,
     pool: &Pool,
-    before: Before,
+    first: usize,
+    locals: &mut FrameLocals,
     delta: u16,
     input: Input<'b>,
 ) -> Result<(Frame, Input<'b>), Failure>
-    requires { before.first < 2 ^ 62 }
-    ensures { Reads (λ f. f) result (full_frame pool.now (before_of before.entry) delta (input_of input.entry)) }
+    requires { first < 2 ^ 62 }
+    ensures exact { Reads (λ f. f) result (full_frame pool.now (before first locals.old) delta (input_of input.entry)) }
+    ensures locals { IfOk result (λ x. x.0.locals ≡ locals.new) }
 {
-    let (locals, rest) = types_at(alloc, pool, input)?;
+    let (given, rest) = locals_at(alloc, pool, input)?;
+    *locals = given;
     let (stack, rest) = types_at(alloc, pool, rest)?;
-    Ok((frame(before, delta, locals, stack), rest))
+    Ok((frame(first, locals, delta, stack)?, rest))
 }
 
 fn more_locals<'b>(
     alloc: Global,
     pool: &Pool,
-    before: Before,
+    first: usize,
+    locals: &mut FrameLocals,
     delta: u16,
     count: u16,
     input: Input<'b>,
 ) -> Result<(Frame, Input<'b>), Failure>
-    requires { before.first < 2 ^ 62 }
-    ensures { Reads (λ f. f) result (more_locals pool.now (before_of before.entry) delta count (input_of input.entry)) }
+    requires { first < 2 ^ 62 }
+    ensures exact { Reads (λ f. f) result (more_locals pool.now (before first locals.old) delta count (input_of input.entry)) }
+    ensures locals { IfOk result (λ x. x.0.locals ≡ locals.new) }
 {
-    let (more, rest) = each_type(alloc, pool, count, input)?;
-    let locals = with_more(alloc, before.locals, more)?;
-    Ok((frame(before, delta, locals, Items::new(alloc)), rest))
+    let rest = push_each(alloc, pool, locals, count, input)?;
+    Ok((frame(first, locals, delta, Items::new(alloc))?, rest))
 }
 
 // Is it no form, or one that takes away more locals than there are or adds more than a frame can have?
@@ -196,81 +214,73 @@ fn is_bad_form(tag: u8, locals: usize) -> bool
 fn long_form<'b>(
     alloc: Global,
     pool: &Pool,
-    before: Before,
+    first: usize,
+    locals: &mut FrameLocals,
     tag: u8,
     delta: u16,
     input: Input<'b>,
 ) -> Result<(Frame, Input<'b>), Failure>
-    requires small { before.first < 2 ^ 62 }
-    requires form { is_bad_form tag (length before.locals.now) ≡ false }
-    ensures { Reads (λ f. f) result (long_form pool.now (before_of before.entry) tag delta (input_of input.entry)) }
+    requires small { first < 2 ^ 62 }
+    requires form { is_bad_form tag (length locals.old) ≡ false }
+    ensures exact { Reads (λ f. f) result (long_form pool.now (before first locals.old) tag delta (input_of input.entry)) }
+    ensures locals { IfOk result (λ x. x.0.locals ≡ locals.new) }
 {
     if tag == 247 {
-        return one_item(alloc, pool, before, delta, input);
+        return one_item(alloc, pool, first, locals, delta, input);
     }
     if tag < 252 {
-        let gone = 251 - tag as usize;
-        return Ok((chopped_frame(alloc, before, delta, gone)?, input));
+        locals.take_last(251 - tag as usize)?;
+        return Ok((frame(first, locals, delta, Items::new(alloc))?, input));
     }
     if tag < 255 {
-        return more_locals(alloc, pool, before, delta, tag as u16 - 251, input);
+        return more_locals(alloc, pool, first, locals, delta, tag as u16 - 251, input);
     }
-    full_frame(alloc, pool, before, delta, input)
+    full_frame(alloc, pool, first, locals, delta, input)
 }
 
+// The next frame, and its local variables in place of those of the frame before.
 #[tactic(auto, unfolding(class_file::specs::FormatFaults::frame_at))]
 fn frame_at<'b>(
     alloc: Global,
     pool: &Pool,
-    before: Before,
+    first: usize,
+    locals: &mut FrameLocals,
     input: Input<'b>,
 ) -> Result<(Frame, Input<'b>), Failure>
-    requires { before.first < 2 ^ 62 }
-    ensures exact { Reads (λ f. f) result (frame_at pool.now (before_of before.entry) (input_of input.entry)) }
-    ensures near { IfOk result (λ x. x.0.at < before.entry.first + 2 ^ 16) }
+    requires { first < 2 ^ 62 }
+    ensures exact { Reads (λ f. f) result (frame_at pool.now (before first locals.old) (input_of input.entry)) }
+    ensures locals { IfOk result (λ x. x.0.locals ≡ locals.new) }
+    ensures near { IfOk result (λ x. x.0.at < first + 2 ^ 16) }
 {
     let (tag, rest) = u1_at(input)?;
     if tag < 64 {
-        return Ok((same_frame(alloc, before, tag as u16)?, rest));
+        return Ok((frame(first, locals, tag as u16, Items::new(alloc))?, rest));
     }
     if tag < 128 {
-        return one_item(alloc, pool, before, tag as u16 - 64, rest);
+        return one_item(alloc, pool, first, locals, tag as u16 - 64, rest);
     }
-    if is_bad_form(tag, before.locals.len()) {
+    if is_bad_form(tag, locals.len()) {
         return Err(fault(FormatCode::BadFrame, input.at));
     }
     let (delta, rest) = u2_at(rest)?;
-    long_form(alloc, pool, before, tag, delta, rest)
-}
-
-// The locals of the last frame, or those that the method starts with.
-fn last_locals<'a>(frames: &'a [Frame], start: &'a [VType]) -> &'a [VType]
-    ensures { result.now ≡ last_locals start.now frames.now }
-{
-    match frames {
-        [] => start,
-        [.., last] => last.locals.as_slice(),
-    }
+    long_form(alloc, pool, first, locals, tag, delta, rest)
 }
 
 fn each_frame<'b>(
     alloc: Global,
     pool: &Pool,
-    start: &[VType],
+    start: &FrameLocals,
     count: u16,
     input: Input<'b>,
 ) -> Result<(Items<Frame>, Input<'b>), Failure>
     ensures { Reads (λ frames. frames) result (frames_at pool.now count (started start.now) (input_of input.entry)) }
 {
     let mut frames = Items::new(alloc);
+    let mut locals = start.share()?;
     let mut first = 0;
     let mut rest = input;
     for _ in 0..count {
-        let before = Before {
-            first,
-            locals: last_locals(frames.as_slice(), start),
-        };
-        let (frame, behind) = frame_at(alloc, pool, before, rest)?;
+        let (frame, behind) = frame_at(alloc, pool, first, &mut locals, rest)?;
         first = frame.at + 1;
         frames.push(frame)?;
         rest = behind;
@@ -283,7 +293,7 @@ fn each_frame<'b>(
 pub fn stack_map_at<'b>(
     alloc: Global,
     pool: &Pool,
-    start: &[VType],
+    start: &FrameLocals,
     input: Input<'b>,
 ) -> Result<(Items<Frame>, Input<'b>), Failure>
     ensures { Reads (λ frames. frames) result (stack_map_at pool.now (started start.now) (input_of input.entry)) }

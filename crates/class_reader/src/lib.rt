@@ -14,7 +14,6 @@ mod names;
 mod opcodes;
 mod pool;
 mod seen;
-mod start;
 mod uses;
 
 pub use class::read_class;

@@ -1,57 +1,34 @@
-//! The local variables of frames.
-ghost use Rattle.std.specs.Prelude.{◌≡◌, ◌++◌, ◌-◌, ◌≤◌, IfOk, length, take};
+//! The local variables of the frame that is read.
+ghost use Rattle.std.specs.Prelude.{◌≡◌, ◌++◌, ◌∷◌, ◌-◌, ◌==◌, ◌&&◌, [], IfOk, OnOk, length, map, not, take};
 ghost use Rattle.std.specs.List.{list_any};
 ghost use Rattle.class_file.specs.ClassBytes.{is_unset};
+ghost use Rattle.class_reader.specs.Locals.{set_before};
 
 use class_file::class::VType;
 use kc_text::Memory;
-use sqlite_items::Items;
+use shared_list::SharedList;
 use std::alloc::Global;
+use std::marker::Model;
 
-fn copy_type(alloc: Global, kept: &VType) -> Result<VType, Memory>
-    ensures { IfOk result (λ copy. copy ≡ kept.now) }
-{
-    match kept {
-        VType::Top => Ok(VType::Top),
-        VType::Integer => Ok(VType::Integer),
-        VType::Long => Ok(VType::Long),
-        VType::Null => Ok(VType::Null),
-        VType::UninitializedThis => Ok(VType::UninitializedThis),
-        VType::Object(name) => Ok(VType::Object(name.copy(alloc)?)),
-        VType::Uninitialized(at) => Ok(VType::Uninitialized(*at)),
-    }
+/// The local variables of a frame. Copies share the types, and it is known without a walk whether the object that a constructor has
+/// still to make is among them.
+#[derive(Drop)]
+pub struct FrameLocals {
+    types: SharedList<VType>,
+    // How many stand before the first such object: all, where there is none.
+    set: usize,
 }
 
-/// These locals.
-pub fn copied(alloc: Global, locals: &[VType]) -> Result<Items<VType>, Memory>
-    ensures { IfOk result (λ copy. copy ≡ locals.now) }
-{
-    let mut copy = Items::new(alloc);
-    for kept in locals {
-        copy.push(copy_type(alloc, kept)?)?;
-    }
-    Ok(copy)
-}
+impl Model for FrameLocals {
+    ghost use Rattle.std.specs.Prelude.{List, ◌≡◌};
+    ghost use Rattle.class_file.specs.declared.class.VType.{VType};
+    ghost use Rattle.class_reader.specs.Locals.{set_before};
 
-/// The locals without the last ones, so many of them.
-pub fn without_last(alloc: Global, locals: &[VType], gone: usize) -> Result<Items<VType>, Memory>
-    requires { gone ≤ length locals.now }
-    ensures { IfOk result (λ copy. copy ≡ take (length locals.now - gone) locals.now) }
-{
-    copied(alloc, &locals[..locals.len() - gone])
-}
+    ghost Value = { List VType };
 
-/// The locals with more at the end.
-pub fn with_more(
-    alloc: Global,
-    locals: &[VType],
-    more: Items<VType>,
-) -> Result<Items<VType>, Memory>
-    ensures { IfOk result (λ copy. copy ≡ locals.now ++ more) }
-{
-    let mut copy = copied(alloc, locals)?;
-    copy.append(more)?;
-    Ok(copy)
+    ghost view = { λ locals. locals.types };
+
+    ghost invariant = { λ locals. locals.set ≡ set_before locals.types };
 }
 
 fn is_unset(kept: &VType) -> bool
@@ -60,9 +37,97 @@ fn is_unset(kept: &VType) -> bool
     matches!(kept, VType::UninitializedThis)
 }
 
-/// Is the object that a constructor makes among the locals?
-pub fn has_unset(locals: &[VType]) -> bool
-    ensures { result ≡ list_any is_unset locals.now }
+fn set_before(types: &[&VType]) -> usize
+    ensures { result ≡ set_before (map (λ kept. kept.now) types.now) }
 {
-    locals.iter().any(is_unset)
+    let mut count = 0;
+    for kept in types {
+        if is_unset(kept) {
+            return count;
+        }
+        count += 1;
+    }
+    count
+}
+
+// Do all stand before the first such object, and is the one that comes behind them none?
+fn is_next(set: usize, len: usize, kept: &VType) -> bool
+    ensures { result ≡ ((set == len) && not (is_unset kept.now)) }
+{
+    set == len && !is_unset(kept)
+}
+
+impl FrameLocals {
+    /// No local variables.
+    pub fn new(alloc: Global) -> Result<FrameLocals, Memory>
+        ensures { IfOk result (λ locals. locals ≡ []) }
+    {
+        Ok(FrameLocals {
+            types: SharedList::new(alloc)?,
+            set: 0,
+        })
+    }
+
+    /// Local variables of these types, in time linear in their number.
+    pub fn of(alloc: Global, types: SharedList<VType>) -> Result<FrameLocals, Memory>
+        ensures { IfOk result (λ locals. locals ≡ types) }
+    {
+        let set = set_before(&types.in_order(alloc)?);
+        Ok(FrameLocals { types, set })
+    }
+
+    /// How many there are; a `Long` is one.
+    pub fn len(&self) -> usize
+        ensures { result ≡ length self.now }
+    {
+        self.types.len()
+    }
+
+    /// The same ones, in constant time.
+    pub fn share(&self) -> Result<FrameLocals, Memory>
+        ensures { IfOk result (λ locals. locals ≡ self.now) }
+    {
+        Ok(FrameLocals {
+            types: self.types.share()?,
+            set: self.set,
+        })
+    }
+
+    /// Their types, in constant time.
+    pub fn types(&self) -> Result<SharedList<VType>, Memory>
+        ensures { IfOk result (λ types. types ≡ self.now) }
+    {
+        self.types.share()
+    }
+
+    /// Is the object that a constructor has still to make among them? In constant time.
+    pub fn has_unset(&self) -> bool
+        ensures { result ≡ list_any is_unset self.now }
+    {
+        self.set < self.types.len()
+    }
+
+    /// Puts one more at the end, in constant time.
+    pub fn push(&mut self, alloc: Global, kept: VType) -> Result<(), Memory>
+        ensures { OnOk result (self.new ≡ self.old ++ kept ∷ []) }
+    {
+        let adds = is_next(self.set, self.types.len(), &kept);
+        self.types.push(alloc, kept)?;
+        if adds {
+            self.set = self.types.len();
+        }
+        Ok(())
+    }
+
+    /// Takes the last ones away, so many of them or all, in time linear in their number.
+    pub fn take_last(&mut self, gone: usize) -> Result<(), Memory>
+        ensures { OnOk result (self.new ≡ take (length self.old - gone) self.old) }
+    {
+        self.types.take_last(gone)?;
+        let len = self.types.len();
+        if len < self.set {
+            self.set = len;
+        }
+        Ok(())
+    }
 }

@@ -16,15 +16,16 @@ use crate::attributes::{attribute, attributes_at, is_refused, kept_bytes};
 use crate::code::{Attributes, Code, code_at};
 use crate::descriptors::{field_descriptor_fault, method_descriptor_fault};
 use crate::input::{Failure, Input, ended, fault, left, part_at, u2_at, u4_at};
+use crate::locals::FrameLocals;
 use crate::names::text_named;
 use crate::seen::Seen;
-use crate::start::{is_init, is_static, start_locals};
-use class_file::class::{Attribute, Field, Method, VType};
+use class_file::class::{Attribute, Field, Method};
 use class_file::format_fault::FormatCode;
 use class_file::pool::Pool;
 use kc_text::{Memory, Text};
 use sqlite_items::Items;
 use std::alloc::Global;
+use verifier_types::{is_init, is_static, start_locals};
 
 const ABSTRACT: u16 = 0x400;
 
@@ -151,7 +152,7 @@ fn needs_code(flags: u16, name: &Text) -> bool
 fn sized_code<'b>(
     alloc: Global,
     pool: &Pool,
-    start: &[VType],
+    start: &FrameLocals,
     input: Input<'b>,
 ) -> Result<(Code, Input<'b>), Failure>
     ensures { Reads code_of result (sized (code_at pool.now (started start.now)) (input_of input.entry)) }
@@ -167,7 +168,7 @@ fn sized_code<'b>(
 fn each_attribute<'b>(
     alloc: Global,
     pool: &Pool,
-    start: &[VType],
+    start: &FrameLocals,
     allowed: bool,
     count: u16,
     input: Input<'b>,
@@ -250,7 +251,7 @@ fn method_at<'b>(
     let (flags, rest) = u2_at(input)?;
     let (name, rest) = text_named(pool, rest)?;
     let (descriptor, rest) = descriptor_at(alloc, pool, Members::Methods, seen, name, rest)?;
-    let start = start_locals(alloc, this, flags, name, descriptor)?;
+    let start = FrameLocals::of(alloc, start_locals(alloc, this, flags, name, descriptor)?)?;
     let (count, rest) = u2_at(rest)?;
     let (attributes, rest) = each_attribute(alloc, pool, &start, !is_abstract(flags), count, rest)?;
     let name = name.copy(alloc)?;

@@ -3,7 +3,6 @@ ghost use Rattle.std.specs.Prelude.{◌≡◌};
 ghost use Rattle.std.specs.Option.{option_copied};
 ghost use Rattle.class_file.specs.Inputs.{Input};
 ghost use Rattle.class_file.specs.ClassBytes.{text_at};
-ghost use Rattle.class_file.specs.Descriptors.{is_array_name};
 ghost use Rattle.class_file.specs.FormatFaults.{text_named, type_named, class_named, catch_type_at};
 ghost use Rattle.class_reader.specs.Reads.{Reads, input_of};
 
@@ -11,7 +10,7 @@ use crate::input::{Failure, Input, fault, u2_at};
 use class_file::format_fault::FormatCode;
 use class_file::pool::{Entry, Pool};
 use kc_text::Text;
-use verifier_types::name_at;
+use verifier_types::{is_array_name, name_at};
 
 /// The text of a Utf8 entry.
 pub fn text_at(pool: &Pool, index: u16) -> Option<&Text>
@@ -21,13 +20,6 @@ pub fn text_at(pool: &Pool, index: u16) -> Option<&Text>
         Some(Entry::Utf8(text)) => Some(text),
         _ => None,
     }
-}
-
-/// Does the name of a type stand for an array?
-fn is_array_name(name: &Text) -> bool
-    ensures { result ≡ is_array_name name.now }
-{
-    matches!(name.units(), [91, ..])
 }
 
 /// The text that an index stands for.
@@ -66,7 +58,7 @@ pub fn class_named<'a, 'b>(
     ensures { Reads (λ text. text.now) result (class_named pool.now (input_of input.entry)) }
 {
     let (name, rest) = type_named(pool, input)?;
-    if is_array_name(name) {
+    if is_array_name(name.units()) {
         return Err(fault(FormatCode::BadIndex, input.at));
     }
     Ok((name, rest))

@@ -79,6 +79,42 @@ fn tells_the_first_fault_of_members(rt: HostRuntime) {
     assert!(rt; is_fault(&rt, &FRAMED, 150, FormatCode::Trailing));
 }
 
+fn push_all(bytes: &mut Vec<u8>, byte: u8, count: usize) -> Result<(), Failed> {
+    for _ in 0..count {
+        bytes.push(byte)?;
+    }
+    Ok(())
+}
+
+// The class above with as many frames as a method can have: one of as many local variables as a frame can have, and behind it those
+// of one byte that say the same.
+fn many_frames(rt: &HostRuntime) -> Result<Vec<u8>, Failed> {
+    let mut bytes = Vec::new(rt.alloc());
+    bytes.extend_from_slice(&FRAMED[..122])?;
+    bytes.extend_from_slice(&131_097u32.to_be_bytes())?;
+    bytes.extend_from_slice(&FRAMED[126..141])?;
+    bytes.extend_from_slice(&131_078u32.to_be_bytes())?;
+    bytes.extend_from_slice(&[0xFF, 0xFF, 255, 0, 0, 0xFF, 0xFF])?;
+    push_all(&mut bytes, 1, 65_535)?;
+    push_all(&mut bytes, 0, 2)?;
+    push_all(&mut bytes, 0, 65_534)?;
+    push_all(&mut bytes, 0, 2)?;
+    Ok(bytes)
+}
+
+// Each with local variables of its own would take four thousand million types.
+#[test]
+fn frames_share_local_variables(rt: HostRuntime) -> Result<(), Failed> {
+    let bytes = many_frames(&rt)?;
+    let class = read_class(rt.alloc(), &bytes).ok().ok_or("no class")?;
+    let method = class.methods.as_slice().first().ok_or("no method")?;
+    assert_eq!(rt; method.frames.len(), 65_535);
+    let last = method.frames.as_slice().last().ok_or("no frame")?;
+    assert_eq!(rt; last.at, 65_534);
+    assert_eq!(rt; last.locals.len(), 65_535);
+    Ok(())
+}
+
 // A pool that holds a text and a long twice is kept as it stands.
 const REPEATED: [u8; 122] = [
     202, 254, 186, 190, 0, 0, 0, 52, 0, 13, 1, 0, 1, 77, 7, 0, 1, 1, 0, 16, 106, 97, 118, 97, 47,

@@ -2,3 +2,4 @@ pub mod Grammar
 pub mod Slots
 pub mod Fitting
 pub mod Examples
+pub mod Behind

@@ -16,6 +16,7 @@ use crate::start::start_locals;
 use class_file::class::{Attribute, Frame, Handler, Method, VType};
 use class_file::instr::Instr;
 use kc_text::{Memory, Text};
+use shared_list::SharedList;
 use std::alloc::Global;
 
 fn put_instrs(out: &mut Vec<u8>, code: &[Instr]) -> Result<(), Memory>
@@ -68,7 +69,7 @@ fn stack_map_name(alloc: Global) -> Result<Text, Memory>
 fn stack_map(
     alloc: Global,
     names: &Names,
-    start: &[VType],
+    start: &SharedList<VType>,
     frames: &[Frame],
 ) -> Result<Vec<u8>, Memory>
     requires first { AreFirst names.now }
@@ -79,7 +80,7 @@ fn stack_map(
 {
     let mut bytes = Vec::new(alloc);
     put_u2(&mut bytes, frames.len() as u16)?;
-    put_frames(&mut bytes, names, start, frames)?;
+    put_frames(alloc, &mut bytes, names, start, frames)?;
     Ok(bytes)
 }
 
@@ -87,7 +88,7 @@ fn put_code_attributes(
     alloc: Global,
     out: &mut Vec<u8>,
     names: &Names,
-    start: &[VType],
+    start: &SharedList<VType>,
     frames: &[Frame],
     others: &[Attribute],
 ) -> Result<(), Memory>

@@ -1,17 +1,18 @@
 //! Frames as bytes, each in the first form that fits (Java Virtual Machine Specification SE 8, 4.7.4).
-ghost use Rattle.std.specs.Prelude.{◌≡◌, ◌++◌, List, ℕ, None, OnOk};
+ghost use Rattle.std.specs.Prelude.{◌≡◌, ◌++◌, List, ℕ, None, Some, OnOk, map};
 ghost use Rattle.std.specs.List.{AllByRecursion};
-ghost use Rattle.std.specs.Option.{option_copied};
 ghost use Rattle.class_file.specs.ClassBytes.{FramesAre};
-ghost use Rattle.class_file.specs.WrittenClass.{behind, delta_of, same_bytes, item_form_bytes, full_bytes, longer_bytes, shorter_bytes, no_stack_bytes, one_item_bytes, form_bytes, frames_bytes};
+ghost use Rattle.class_file.specs.WrittenClass.{behind, delta_of, same_bytes, item_form_bytes, item_bytes, full_bytes, longer_bytes, shorter_bytes, no_stack_bytes, one_item_bytes, form_bytes, frames_bytes};
 ghost use Rattle.class_writer.specs.Indexes.{AreFirst, slots_of};
 ghost use Rattle.class_writer.specs.Fits.{IsSmall, FrameFits, IsBehind, before_of};
 
 use crate::names::Names;
 use crate::numbers::{put_u1, put_u2};
-use crate::types::{behind, put_each_type, put_type, put_types};
+use crate::types::{are_same, begins_with, put_each_local, put_locals, put_type, put_types};
 use class_file::class::{Frame, VType};
 use kc_text::Memory;
+use shared_list::SharedList;
+use std::alloc::Global;
 
 fn put_same(out: &mut Vec<u8>, delta: u16) -> Result<(), Memory>
     ensures { OnOk result (out.new.items ≡ out.old.items ++ same_bytes delta) }
@@ -33,14 +34,30 @@ fn put_item_form(out: &mut Vec<u8>, delta: u16) -> Result<(), Memory>
     put_u2(out, delta)
 }
 
-fn put_full(out: &mut Vec<u8>, names: &Names, delta: u16, frame: &Frame) -> Result<(), Memory>
+fn put_item(out: &mut Vec<u8>, names: &Names, delta: u16, item: &VType) -> Result<(), Memory>
+    requires first { AreFirst names.now }
+    requires small { IsSmall item.now }
+    ensures { OnOk result (out.new.items ≡ out.old.items ++ item_bytes (slots_of names.now) delta item.now) }
+{
+    put_item_form(out, delta)?;
+    put_type(out, names, item)
+}
+
+fn put_full(
+    out: &mut Vec<u8>,
+    names: &Names,
+    delta: u16,
+    frame: &Frame,
+    locals: &[&VType],
+) -> Result<(), Memory>
     requires first { AreFirst names.now }
     requires fits { FrameFits frame.now }
+    requires locals { map (λ kept. kept.now) locals.now ≡ frame.now.locals }
     ensures { OnOk result (out.new.items ≡ out.old.items ++ full_bytes (slots_of names.now) delta frame.now) }
 {
     put_u1(out, 255)?;
     put_u2(out, delta)?;
-    put_types(out, names, frame.locals.as_slice())?;
+    put_locals(out, names, locals)?;
     put_types(out, names, frame.stack.as_slice())
 }
 
@@ -49,12 +66,14 @@ fn put_longer(
     names: &Names,
     delta: u16,
     frame: &Frame,
-    more: &[VType],
+    locals: &[&VType],
+    more: &[&VType],
 ) -> Result<(), Memory>
     requires first { AreFirst names.now }
     requires fits { FrameFits frame.now }
-    requires small { AllByRecursion IsSmall more.now }
-    ensures { OnOk result (out.new.items ≡ out.old.items ++ longer_bytes (slots_of names.now) delta frame.now more.now) }
+    requires locals { map (λ kept. kept.now) locals.now ≡ frame.now.locals }
+    requires small { AllByRecursion IsSmall (map (λ kept. kept.now) more.now) }
+    ensures { OnOk result (out.new.items ≡ out.old.items ++ longer_bytes (slots_of names.now) delta frame.now (map (λ kept. kept.now) more.now)) }
 {
     if more.is_empty() {
         return put_same(out, delta);
@@ -62,9 +81,9 @@ fn put_longer(
     if more.len() < 4 {
         put_u1(out, 251 + more.len() as u8)?;
         put_u2(out, delta)?;
-        return put_each_type(out, names, more);
+        return put_each_local(out, names, more);
     }
-    put_full(out, names, delta, frame)
+    put_full(out, names, delta, frame, locals)
 }
 
 fn put_shorter(
@@ -72,22 +91,19 @@ fn put_shorter(
     names: &Names,
     delta: u16,
     frame: &Frame,
-    gone: Option<&[VType]>,
+    locals: &[&VType],
+    gone: &[&VType],
 ) -> Result<(), Memory>
     requires first { AreFirst names.now }
     requires fits { FrameFits frame.now }
-    ensures { OnOk result (out.new.items ≡ out.old.items ++ shorter_bytes (slots_of names.now) delta frame.now (option_copied gone.entry)) }
+    requires locals { map (λ kept. kept.now) locals.now ≡ frame.now.locals }
+    ensures { OnOk result (out.new.items ≡ out.old.items ++ shorter_bytes (slots_of names.now) delta frame.now (Some (map (λ kept. kept.now) gone.now))) }
 {
-    match gone {
-        Some(gone) => {
-            if gone.len() < 4 {
-                put_u1(out, 251 - gone.len() as u8)?;
-                return put_u2(out, delta);
-            }
-            put_full(out, names, delta, frame)
-        }
-        None => put_full(out, names, delta, frame),
+    if gone.len() < 4 {
+        put_u1(out, 251 - gone.len() as u8)?;
+        return put_u2(out, delta);
     }
+    put_full(out, names, delta, frame, locals)
 }
 
 fn put_no_stack(
@@ -95,17 +111,23 @@ fn put_no_stack(
     names: &Names,
     delta: u16,
     frame: &Frame,
-    before: &[VType],
+    locals: &[&VType],
+    before: &[&VType],
 ) -> Result<(), Memory>
     requires first { AreFirst names.now }
     requires fits { FrameFits frame.now }
-    ensures { OnOk result (out.new.items ≡ out.old.items ++ no_stack_bytes (slots_of names.now) delta frame.now before.now (behind before.now frame.now.locals)) }
+    requires locals { map (λ kept. kept.now) locals.now ≡ frame.now.locals }
+    ensures { OnOk result (out.new.items ≡ out.old.items ++ no_stack_bytes (slots_of names.now) delta frame.now (map (λ kept. kept.now) before.now) (behind (map (λ kept. kept.now) before.now) frame.now.locals)) }
 {
-    let locals = frame.locals.as_slice();
-    match behind(before, locals) {
-        Some(more) => put_longer(out, names, delta, frame, more),
-        None => put_shorter(out, names, delta, frame, behind(locals, before)),
+    if begins_with(locals, before) {
+        let more = &locals[before.len()..];
+        return put_longer(out, names, delta, frame, locals, more);
     }
+    if begins_with(before, locals) {
+        let gone = &before[locals.len()..];
+        return put_shorter(out, names, delta, frame, locals, gone);
+    }
+    put_full(out, names, delta, frame, locals)
 }
 
 fn put_one_item(
@@ -113,21 +135,20 @@ fn put_one_item(
     names: &Names,
     delta: u16,
     frame: &Frame,
-    before: &[VType],
+    locals: &[&VType],
+    before: &[&VType],
     item: &VType,
 ) -> Result<(), Memory>
     requires first { AreFirst names.now }
     requires fits { FrameFits frame.now }
+    requires locals { map (λ kept. kept.now) locals.now ≡ frame.now.locals }
     requires small { IsSmall item.now }
-    ensures { OnOk result (out.new.items ≡ out.old.items ++ one_item_bytes (slots_of names.now) delta frame.now item.now (behind before.now frame.now.locals)) }
+    ensures { OnOk result (out.new.items ≡ out.old.items ++ one_item_bytes (slots_of names.now) delta frame.now item.now (behind (map (λ kept. kept.now) before.now) frame.now.locals)) }
 {
-    match behind(before, frame.locals.as_slice()) {
-        Some([]) => {
-            put_item_form(out, delta)?;
-            put_type(out, names, item)
-        }
-        _ => put_full(out, names, delta, frame),
+    if are_same(locals, before) {
+        return put_item(out, names, delta, item);
     }
+    put_full(out, names, delta, frame, locals)
 }
 
 fn put_form(
@@ -135,16 +156,18 @@ fn put_form(
     names: &Names,
     delta: u16,
     frame: &Frame,
-    before: &[VType],
+    locals: &[&VType],
+    before: &[&VType],
 ) -> Result<(), Memory>
     requires first { AreFirst names.now }
     requires fits { FrameFits frame.now }
-    ensures { OnOk result (out.new.items ≡ out.old.items ++ form_bytes (slots_of names.now) delta frame.now before.now frame.now.stack) }
+    requires locals { map (λ kept. kept.now) locals.now ≡ frame.now.locals }
+    ensures { OnOk result (out.new.items ≡ out.old.items ++ form_bytes (slots_of names.now) delta frame.now (map (λ kept. kept.now) before.now) frame.now.stack) }
 {
     match frame.stack.as_slice() {
-        [] => put_no_stack(out, names, delta, frame, before),
-        [item] => put_one_item(out, names, delta, frame, before, item),
-        [_, _, ..] => put_full(out, names, delta, frame),
+        [] => put_no_stack(out, names, delta, frame, locals, before),
+        [item] => put_one_item(out, names, delta, frame, locals, before, item),
+        [_, _, ..] => put_full(out, names, delta, frame, locals),
     }
 }
 
@@ -159,11 +182,12 @@ fn delta_of(before: Option<usize>, at: usize) -> u16
 }
 
 /// Puts the frames of a method that starts with these locals at the end.
-pub fn put_frames(
+pub fn put_frames<'a>(
+    alloc: Global,
     out: &mut Vec<u8>,
     names: &Names,
-    start: &[VType],
-    frames: &[Frame],
+    start: &'a SharedList<VType>,
+    frames: &'a [Frame],
 ) -> Result<(), Memory>
     requires first { AreFirst names.now }
     requires small { AllByRecursion IsSmall start.now }
@@ -171,11 +195,12 @@ pub fn put_frames(
     ensures { OnOk result (out.new.items ≡ out.old.items ++ frames_bytes (slots_of names.now) (before_of None start.now) frames.now) }
 {
     let mut at = None;
-    let mut before = start;
+    let mut before = start.in_order(alloc)?;
     for frame in frames {
-        put_form(out, names, delta_of(at, frame.at), frame, before)?;
+        let locals = frame.locals.in_order(alloc)?;
+        put_form(out, names, delta_of(at, frame.at), frame, &locals, &before)?;
         at = Some(frame.at);
-        before = frame.locals.as_slice();
+        before = locals;
     }
     Ok(())
 }

@@ -1,7 +1,6 @@
 //! Verification types as bytes (Java Virtual Machine Specification SE 8, 4.7.4).
-ghost use Rattle.std.specs.Prelude.{◌≡◌, ◌++◌, ◌<◌, ◌^◌, OnOk, length};
+ghost use Rattle.std.specs.Prelude.{◌≡◌, ◌++◌, ◌<◌, ◌^◌, ◌==◌, ◌&&◌, OnOk, length, map, is_some};
 ghost use Rattle.std.specs.List.{flat_map, AllByRecursion};
-ghost use Rattle.std.specs.Option.{option_copied};
 ghost use Rattle.class_file.specs.WrittenClass.{type_bytes, table_bytes, is_type, behind};
 ghost use Rattle.class_writer.specs.Indexes.{AreFirst, slots_of};
 ghost use Rattle.class_writer.specs.Fits.{IsSmall, AreSmall};
@@ -56,6 +55,28 @@ pub fn put_types(out: &mut Vec<u8>, names: &Names, types: &[VType]) -> Result<()
     put_each_type(out, names, types)
 }
 
+/// Puts the types of local variables at the end.
+pub fn put_each_local(out: &mut Vec<u8>, names: &Names, locals: &[&VType]) -> Result<(), Memory>
+    requires first { AreFirst names.now }
+    requires small { AllByRecursion IsSmall (map (λ kept. kept.now) locals.now) }
+    ensures { OnOk result (out.new.items ≡ out.old.items ++ flat_map (type_bytes (slots_of names.now)) (map (λ kept. kept.now) locals.now)) }
+{
+    for kept in locals {
+        put_type(out, names, kept)?;
+    }
+    Ok(())
+}
+
+/// Puts the types of local variables, their count first, at the end.
+pub fn put_locals(out: &mut Vec<u8>, names: &Names, locals: &[&VType]) -> Result<(), Memory>
+    requires first { AreFirst names.now }
+    requires small { AreSmall (map (λ kept. kept.now) locals.now) }
+    ensures { OnOk result (out.new.items ≡ out.old.items ++ table_bytes (type_bytes (slots_of names.now)) (map (λ kept. kept.now) locals.now)) }
+{
+    put_u2(out, locals.len() as u16)?;
+    put_each_local(out, names, locals)
+}
+
 fn is_type(kept: &VType, other: &VType) -> bool
     ensures { result ≡ is_type kept.now other.now }
 {
@@ -71,21 +92,28 @@ fn is_type(kept: &VType, other: &VType) -> bool
     }
 }
 
-/// What stands in the second list behind the first, if it begins with that.
-pub fn behind<'a>(front: &[VType], whole: &'a [VType]) -> Option<&'a [VType]>
-    ensures { option_copied result ≡ behind front.now whole.now }
+/// Do the types of the second list stand at the front of the first?
+pub fn begins_with(whole: &[&VType], front: &[&VType]) -> bool
+    ensures { result ≡ is_some (behind (map (λ kept. kept.now) front.now) (map (λ kept. kept.now) whole.now)) }
 {
     let mut rest = whole;
     for kept in front {
         match rest {
-            [] => return None,
+            [] => return false,
             [first, others @ ..] => {
                 if !is_type(kept, first) {
-                    return None;
+                    return false;
                 }
                 rest = others;
             }
         }
     }
-    Some(rest)
+    true
+}
+
+/// Are the types of both lists the same?
+pub fn are_same(whole: &[&VType], front: &[&VType]) -> bool
+    ensures { result ≡ ((length whole.now == length front.now) && is_some (behind (map (λ kept. kept.now) front.now) (map (λ kept. kept.now) whole.now))) }
+{
+    whole.len() == front.len() && begins_with(whole, front)
 }

@@ -1,10 +1,9 @@
 // The frames of a method.
-ghost use Rattle.std.specs.Prelude.{◌≡◌, ◌++◌, ◌∷◌, ◌-◌, [], length, map, reverse, replicate, codes, OnOk, IfOk};
+ghost use Rattle.std.specs.Prelude.{◌≡◌, ◌++◌, ◌∷◌, ◌-◌, [], length, map, reverse, replicate, OnOk, IfOk};
 ghost use Rattle.std.specs.Option.{option_map};
 ghost use Rattle.class_file.specs.declared.class.VType.TheVariants as vtype;
 ghost use Rattle.class_file.specs.Members.{described};
 ghost use Rattle.class_file.specs.Verification.{spread, padded, types_given, given_in, given_at, is_static, is_constructor, receiver_types, first_types};
-ghost use Rattle.class_file.specs.Pools.{is_text};
 ghost use Rattle.verifier_types.specs.Seen.{type_of};
 ghost use Rattle.verifier_types.specs.Frames.{shown};
 ghost use Rattle.verifier_types.specs.Calls.{call_seen};
@@ -13,7 +12,7 @@ use crate::tabled::TabledMethod;
 use class_file::class::{ClassFile, Frame, Method, VType};
 use kc_text::Memory;
 use std::alloc::Global;
-use verifier_types::{Call, Known, Locals, Stack, VerificationType};
+use verifier_types::{Call, Known, Locals, Stack, VerificationType, is_init};
 
 // A Long takes two places.
 fn push_local<'a>(locals: &mut Locals<'a>, t: VerificationType<'a>) -> Result<(), Memory>
@@ -26,8 +25,8 @@ fn push_local<'a>(locals: &mut Locals<'a>, t: VerificationType<'a>) -> Result<()
     Ok(())
 }
 
-fn push_given<'a>(locals: &mut Locals<'a>, types: &'a [VType]) -> Result<(), Memory>
-    ensures { OnOk result (locals.new ≡ locals.old ++ spread types.now) }
+fn push_given<'a>(locals: &mut Locals<'a>, types: &[&'a VType]) -> Result<(), Memory>
+    ensures { OnOk result (locals.new ≡ locals.old ++ spread (map (λ t. t.now) types.now)) }
 {
     for t in types {
         push_local(locals, VerificationType::given(t))?;
@@ -68,7 +67,7 @@ fn known_of<'a>(alloc: Global, max: usize, frame: &'a Frame) -> Result<Known<'a>
     ensures { IfOk result (λ known. shown known ≡ types_given max frame.now) }
 {
     let mut locals = Locals::new(alloc);
-    push_given(&mut locals, frame.locals.as_slice())?;
+    push_given(&mut locals, &frame.locals.in_order(alloc)?)?;
     pad(&mut locals, max)?;
     let stack = given_stack(alloc, frame.stack.as_slice())?;
     Ok(Known {
@@ -97,14 +96,6 @@ fn is_static(method: &Method) -> bool
     ensures { result ≡ is_static method.now }
 {
     method.flags & 8 == 8
-}
-
-static INIT: [u16; 6] = [60, 105, 110, 105, 116, 62];
-
-fn is_init(name: &[u16]) -> bool
-    ensures { result ≡ is_text name.now (codes "<init>") }
-{
-    name == INIT.as_slice()
 }
 
 fn is_constructor(method: &Method) -> bool

@@ -13,6 +13,6 @@ mod tables;
 mod tests;
 mod verified;
 
-pub use loading::{is_loaded, is_reserved};
+pub use loading::{has_code_at, is_loaded, is_reserved, static_named};
 pub use lot::is_first_lot;
 pub use verified::{Verified, verify};

@@ -2,7 +2,6 @@
 ghost use Rattle.std.specs.Prelude.{◌≡◌, true, IfOk, length, codes, nat_le};
 ghost use Rattle.std.specs.List.{list_all};
 ghost use Rattle.class_file.specs.Classes.{class_named};
-ghost use Rattle.class_file.specs.Descriptors.{is_array_name};
 ghost use Rattle.class_file.specs.Lots.{static_named};
 ghost use Rattle.class_soundness.specs.Soundness.{IsLoaded};
 ghost use Rattle.verifier.specs.Whole.{is_reserved, method_is_whole, class_is_whole, is_whole, has_code_at, main_in, main_is_own, rank_of, is_higher, are_higher, are_ranked, set_is_whole};
@@ -11,7 +10,7 @@ use class_file::class::{ClassFile, Method, Set};
 use class_soundness::whole_sets_are_loaded;
 use kc_text::{Memory, Text};
 use std::alloc::Global;
-use verifier_types::NamedSet;
+use verifier_types::{NamedSet, is_array_name};
 
 // ACC_STATIC, ACC_INTERFACE and ACC_ABSTRACT (Java Virtual Machine Specification SE 8, 4.1 and 4.6).
 const STATIC: u16 = 0x0008;
@@ -19,9 +18,6 @@ const STATIC: u16 = 0x0008;
 const INTERFACE: u16 = 0x0200;
 
 const ABSTRACT: u16 = 0x0400;
-
-// The unit with which the name of an array begins.
-const BRACKET: u16 = 91;
 
 /// Is the name of a package that is kept for the run-time system's classes? None of these has another name.
 pub fn is_reserved(alloc: Global, name: &Text) -> Result<bool, Memory>
@@ -38,15 +34,6 @@ pub fn is_reserved(alloc: Global, name: &Text) -> Result<bool, Memory>
 }
 
 // ---- one class
-
-fn is_array_name(name: &[u16]) -> bool
-    ensures { result ≡ is_array_name name.now }
-{
-    match name {
-        [] => false,
-        [first, ..] => *first == BRACKET,
-    }
-}
 
 fn is_whole_method(method: &Method, initialiser: &Text) -> bool
     ensures { result ≡ method_is_whole initialiser.now method.now }
@@ -92,15 +79,16 @@ fn are_whole(alloc: Global, classes: &[ClassFile]) -> Result<bool, Memory>
 
 // ---- main
 
-// The first static method of this name and descriptor.
-fn static_named(methods: &[Method], name: &Text, descriptor: &Text) -> Option<usize>
+/// The place of the first static method of this name and descriptor.
+pub fn static_named(name: &Text, descriptor: &Text, methods: &[Method]) -> Option<usize>
     ensures { result ≡ static_named name.now descriptor.now methods.now }
 {
     methods.iter().position(|method| method.flags & STATIC != 0
         && (method.name == *name && method.descriptor == *descriptor))
 }
 
-fn has_code_at(methods: &[Method], place: Option<usize>) -> bool
+/// Does a method with code stand at this place?
+pub fn has_code_at(methods: &[Method], place: Option<usize>) -> bool
     ensures { result ≡ has_code_at methods.now place }
 {
     let Some(place) = place else {
@@ -118,7 +106,7 @@ fn has_main(alloc: Global, class: &ClassFile) -> Result<bool, Memory>
     let name = Text::from_str(alloc, "main")?;
     let descriptor = Text::from_str(alloc, "()V")?;
     let methods = class.methods.as_slice();
-    Ok(has_code_at(methods, static_named(methods, &name, &descriptor)))
+    Ok(has_code_at(methods, static_named(&name, &descriptor, methods)))
 }
 
 fn main_is_own(alloc: Global, set: &NamedSet) -> Result<bool, Memory>

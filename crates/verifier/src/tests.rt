@@ -4,6 +4,7 @@ use class_file::instr::Instr;
 use class_file::pool::{Entry, Pool};
 use class_file::verify_code::{VerifyCode, VerifyFault};
 use kc_text::{Fail, Memory, Text};
+use shared_list::SharedList;
 use sqlite_items::Items;
 use std::alloc::Global;
 use std::test::Fail as Failed;
@@ -54,6 +55,14 @@ fn int_types(alloc: Global, count: usize) -> Result<Items<VType>, Memory> {
     Ok(types)
 }
 
+fn int_locals(alloc: Global, count: usize) -> Result<SharedList<VType>, Memory> {
+    let mut types = SharedList::new(alloc)?;
+    for _ in 0..count {
+        types.push(alloc, VType::Integer)?;
+    }
+    Ok(types)
+}
+
 fn stack_types(alloc: Global, stack: Lying) -> Result<Items<VType>, Memory> {
     match stack {
         Lying::Ints(count) => int_types(alloc, count),
@@ -70,7 +79,7 @@ fn frames_of(alloc: Global, given: &[Given]) -> Result<Items<Frame>, Memory> {
     for frame in given {
         frames.push(Frame {
             at: frame.at,
-            locals: int_types(alloc, frame.locals)?,
+            locals: int_locals(alloc, frame.locals)?,
             stack: stack_types(alloc, frame.stack)?,
             unset: false,
         })?;

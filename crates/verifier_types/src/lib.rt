@@ -12,6 +12,7 @@ mod named_set;
 mod names;
 mod rows;
 mod stack;
+mod start;
 mod types;
 mod use_types;
 
@@ -21,7 +22,8 @@ pub use descriptors::Call;
 pub use known::Known;
 pub use locals::Locals;
 pub use named_set::NamedSet;
-pub use names::reference_below;
+pub use names::{is_array_name, is_special_name, reference_below};
 pub use rows::step;
 pub use stack::Stack;
+pub use start::{is_init, is_static, start_locals};
 pub use types::VerificationType;

@@ -122,7 +122,8 @@ fn array_named(set: &NamedSet, name: &[u16]) -> Option<NamedType>
     }
 }
 
-fn is_array_name(name: &[u16]) -> bool
+/// Is it the descriptor of an array, which stands for its name?
+pub fn is_array_name(name: &[u16]) -> bool
     ensures { result ≡ is_array_name name.now }
 {
     match name {
@@ -211,7 +212,8 @@ fn has_chain_static(
     }
 }
 
-fn is_special_name(name: &[u16]) -> bool
+/// Is it the name of constructors or of the static initializer (4.3.4, 2.9)?
+pub fn is_special_name(name: &[u16]) -> bool
     ensures { result ≡ is_special_name name.now }
 {
     match name {

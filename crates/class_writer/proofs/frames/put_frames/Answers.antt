@@ -1,4 +1,4 @@
-use Rattle.std.proofs.Common.{◌≡◌, ◌++◌, ◌∷◌, ℕ, ◌+◌, ◌<◌, List, drop, get_or, length, Option, Some, sym, ap, subst, ◌∙◌, append_assoc}
+use Rattle.std.proofs.Common.{◌≡◌, ◌++◌, ◌∷◌, ℕ, ◌+◌, ◌<◌, List, Bor, map, drop, get_or, length, Option, Some, sym, ap, subst, ◌∙◌, append_assoc}
 use Rattle.std.proofs.lemmas.List.{drop_more}
 use Rattle.class_file.specs.declared.class.VType.{VType}
 use Rattle.class_file.specs.declared.class.Frame.{Frame}
@@ -45,13 +45,17 @@ left_is frames i f lt is = drop_more frames i f lt ∙ ap (λ (g : Frame). g ∷
 
 pub delta_of-requires : goal.delta_of-requires
 delta_of-requires c =
-    next_behind (slots_of c.args.names.now) c.loop-frame.out.items c.args.out.now.items c.loop-frame.at c.loop-frame.before.now c.args.start.now c.frame-item.result (drop (c.loop-frame.frame-index + 1) c.args.frames.now) (drop c.loop-frame.frame-index c.args.frames.now) c.args.frames.now (left_is c.args.frames.now c.loop-frame.frame-index c.frame-item.result c.loop-frame-test.true c.frame-item.is) c.loop-frame.invariant
+    next_behind (slots_of c.args.names.now) c.loop-frame.out.items c.args.out.now.items c.loop-frame.at (map (λ (k : Bor VType). k.now) c.loop-frame.before.items) c.args.start.now c.frame-item.result (drop (c.loop-frame.frame-index + 1) c.args.frames.now) (drop c.loop-frame.frame-index c.args.frames.now) c.args.frames.now (left_is c.args.frames.now c.loop-frame.frame-index c.frame-item.result c.loop-frame-test.true c.frame-item.is) c.loop-frame.invariant
 
 pub put_form-requires-clause-fits : goal.put_form-requires-clause-fits
 put_form-requires-clause-fits c =
-    next_fits (slots_of c.args.names.now) c.loop-frame.out.items c.args.out.now.items c.loop-frame.at c.loop-frame.before.now c.args.start.now c.frame-item.result (drop (c.loop-frame.frame-index + 1) c.args.frames.now) (drop c.loop-frame.frame-index c.args.frames.now) c.args.frames.now (left_is c.args.frames.now c.loop-frame.frame-index c.frame-item.result c.loop-frame-test.true c.frame-item.is) c.loop-frame.invariant
+    next_fits (slots_of c.args.names.now) c.loop-frame.out.items c.args.out.now.items c.loop-frame.at (map (λ (k : Bor VType). k.now) c.loop-frame.before.items) c.args.start.now c.frame-item.result (drop (c.loop-frame.frame-index + 1) c.args.frames.now) (drop c.loop-frame.frame-index c.args.frames.now) c.args.frames.now (left_is c.args.frames.now c.loop-frame.frame-index c.frame-item.result c.loop-frame-test.true c.frame-item.is) c.loop-frame.invariant
 
 pub loop-frame-preserved : goal.loop-frame-preserved
 loop-frame-preserved c =
-    rw c.as_slice-before.ensures
-    (next_left (slots_of c.args.names.now) c.loop-frame.out.items c.put_form.new.out.items c.args.out.now.items c.loop-frame.at c.loop-frame.before.now c.args.start.now c.frame-item.result (drop (c.loop-frame.frame-index + 1) c.args.frames.now) (drop c.loop-frame.frame-index c.args.frames.now) c.args.frames.now c.delta_of.result (left_is c.args.frames.now c.loop-frame.frame-index c.frame-item.result c.loop-frame-test.true c.frame-item.is) c.loop-frame.invariant c.in_ok-put_form.ensures c.delta_of.ensures)
+    let slots = slots_of c.args.names.now in
+    let f = c.frame-item.result in
+    let seen = λ (ks : List (Bor VType)). map (λ (k : Bor VType). k.now) ks in
+    let put = subst (λ (ks : List (Bor VType)). c.put_form.new.out.items ≡ c.loop-frame.out.items ++ form_bytes slots c.delta_of.result f (seen ks) f.stack) c.deref-in-loop-frame.ensures.value c.in_ok-put_form.ensures in
+    rw c.in_ok-locals.ensures
+    (next_left slots c.loop-frame.out.items c.put_form.new.out.items c.args.out.now.items c.loop-frame.at (seen c.loop-frame.before.items) c.args.start.now f (drop (c.loop-frame.frame-index + 1) c.args.frames.now) (drop c.loop-frame.frame-index c.args.frames.now) c.args.frames.now c.delta_of.result (left_is c.args.frames.now c.loop-frame.frame-index f c.loop-frame-test.true c.frame-item.is) c.loop-frame.invariant put c.delta_of.ensures)

@@ -1,4 +1,4 @@
-use Rattle.std.proofs.Common.{◌≡◌, ◌++◌, ℕ, List, drop, Option, None}
+use Rattle.std.proofs.Common.{◌≡◌, ◌++◌, ℕ, List, drop, map, Bor, Option, None}
 use Rattle.std.specs.List.{AllByRecursion}
 use Rattle.class_file.specs.declared.class.VType.{VType}
 use Rattle.class_file.specs.declared.class.Frame.{Frame}
@@ -16,4 +16,4 @@ pub record Left (slots : Slots) (out old : List ℕ) (at : Option ℕ) (before s
   pub spelled : (bytes : List ℕ) × FramesAre slots (before_of at before) left bytes
 
 abbrev pub invariant-loop-frame : goal.invariant-loop-frame
-invariant-loop-frame l = Left (slots_of l.names) l.out.items l.fn.out.items l.at l.before l.start (drop l.frame-index l.frames) l.frames
+invariant-loop-frame l = Left (slots_of l.names) l.out.items l.fn.out.items l.at (map (λ (k : Bor VType). k.now) l.before.items) l.start (drop l.frame-index l.frames) l.frames

@@ -6,21 +6,25 @@ ghost use Rattle.class_file.specs.ClassBytes.{receiver};
 ghost use Rattle.class_file.specs.Members.{described};
 ghost use Rattle.verifier_types.specs.Seen.{type_of};
 
+use crate::calls::described;
+use crate::types::VerificationType;
 use class_file::class::VType;
 use kc_text::{Memory, Text};
+use shared_list::SharedList;
 use std::alloc::Global;
-use verifier_types::{VerificationType, described};
 
 static INIT: [u16; 6] = [60, 105, 110, 105, 116, 62];
 
 const STATIC: u16 = 8;
 
+/// Is it the name of constructors?
 pub fn is_init(name: &[u16]) -> bool
     ensures { result ≡ is_text name.now (codes "<init>") }
 {
     name == INIT.as_slice()
 }
 
+/// Do the flags have ACC_STATIC (Java Virtual Machine Specification SE 8, 4.6)?
 pub fn is_static(flags: u16) -> bool
     ensures { result ≡ is_static_flag flags }
 {
@@ -29,21 +33,21 @@ pub fn is_static(flags: u16) -> bool
 
 fn push_receiver(
     alloc: Global,
-    locals: &mut Vec<VType>,
+    locals: &mut SharedList<VType>,
     this: &Text,
     flags: u16,
     name: &Text,
 ) -> Result<(), Memory>
-    ensures { OnOk result (locals.new.items ≡ locals.old.items ++ receiver this.now flags name.now) }
+    ensures { OnOk result (locals.new ≡ locals.old ++ receiver this.now flags name.now) }
 {
     if is_static(flags) {
         return Ok(());
     }
     if is_init(name.units()) {
-        locals.push(VType::UninitializedThis)?;
+        locals.push(alloc, VType::UninitializedThis)?;
         return Ok(());
     }
-    locals.push(VType::Object(this.copy(alloc)?))?;
+    locals.push(alloc, VType::Object(this.copy(alloc)?))?;
     Ok(())
 }
 
@@ -66,28 +70,29 @@ fn owned(alloc: Global, seen: VerificationType) -> Result<VType, Memory>
 
 fn push_types(
     alloc: Global,
-    locals: &mut Vec<VType>,
+    locals: &mut SharedList<VType>,
     types: &[VerificationType],
 ) -> Result<(), Memory>
-    ensures { OnOk result (locals.new.items ≡ locals.old.items ++ map type_of types.now) }
+    ensures { OnOk result (locals.new ≡ locals.old ++ map type_of types.now) }
 {
     for seen in types {
-        locals.push(owned(alloc, *seen)?)?;
+        locals.push(alloc, owned(alloc, *seen)?)?;
     }
     Ok(())
 }
 
-/// The types of the local variables that a method of this class starts with.
+/// The types of the local variables that a method of this class starts with: its object, unless it is static, and its parameters. A
+/// `Long` is one.
 pub fn start_locals(
     alloc: Global,
     this: &Text,
     flags: u16,
     name: &Text,
     descriptor: &Text,
-) -> Result<Vec<VType>, Memory>
-    ensures { IfOk result (λ locals. locals.items ≡ receiver this.now flags name.now ++ (described descriptor.now).params) }
+) -> Result<SharedList<VType>, Memory>
+    ensures { IfOk result (λ locals. locals ≡ receiver this.now flags name.now ++ (described descriptor.now).params) }
 {
-    let mut locals = Vec::new(alloc);
+    let mut locals = SharedList::new(alloc)?;
     push_receiver(alloc, &mut locals, this, flags, name)?;
     let call = described(alloc, descriptor)?;
     push_types(alloc, &mut locals, &call.params)?;
