@@ -6,6 +6,8 @@ use Rattle.kc_core.specs.declared.tree.Program.{Program}
 use Rattle.class_file.specs.declared.class.ClassFile.{ClassFile}
 use Rattle.class_file.specs.declared.class.Method.{Method}
 use Rattle.stack_code.specs.Agrees.{IsCodeOf, IsCompiled, IsOwnName}
+use Rattle.stack_code.specs.Frames.{IsFramed}
+use Rattle.kc_cli.specs.Compiled.{Compiles}
 
 first_function : (fs : List Function) (f g : Function) → slice_get fs 0 ≡ Some g → f ≡ get_or fs 0 f → f ≡ g
 first_function [] f g h e = cc
@@ -42,3 +44,11 @@ is_compiled p fs f g c m main classes one list first there named own alone metho
   where
     f_is : f ≡ g
     f_is = first_function p.functions f g there (first ∙ ap (λ l. get_or l 0 f) list)
+
+-- and its method gives the frames of its code
+pub compiles : (p : Program) (fs : List Function) (f g : Function) (c : ClassFile) (m : Method) (main : List ℕ) (classes : List ClassFile) → classes ≡ c ∷ [] → fs ≡ p.functions → f ≡ get_or fs 0 f → slice_get p.functions 0 ≡ Some g → g.name ≡ codes "main" → IsOwnName main → IsAlone c main m → IsMethodOf m f → IsCodeOf c.pool m f → IsFramed m f → Compiles (record { classes = classes; main = main }) p 0
+unfolding is_compiled
+compiles p fs f g c m main classes one list first there named own alone method code framed = record {
+  compiled = is_compiled p fs f g c m main classes one list first there named own alone method code;
+  framed = framed;
+}

@@ -9,6 +9,7 @@ use Rattle.kc_core.specs.Runs as runs
 use Rattle.kc_core.specs.Formed.{MainFormed}
 use Rattle.kc_core.specs.NeverBroken.{never_broken}
 use Rattle.class_file.specs.declared.class.Set.{Set}
+use Rattle.class_file.specs.Verification.{Verifies}
 use Rattle.class_file.specs.Machine as machine
 use Rattle.class_file.specs.Machine.{written, Next, on_from, Ending}
 use Rattle.class_machine.specs.Core.{Core as MachineCore, state_of, first_core}
@@ -19,10 +20,11 @@ use Rattle.form_elaboration.specs.Form.{Form}
 use Rattle.kc_cli.specs.Execution.{Builds, Finished, BrokenOff}
 
 -- the class of a program of the form
-pub builds : (bytes : List ℕ) (program : Program) (set : Set) → Form 0 bytes program → MainFormed program 0 → IsCompiled set program 0 → Builds bytes set
-builds bytes program set f formed c = record {
+pub builds : (bytes : List ℕ) (program : Program) (set : Set) → Form 0 bytes program → MainFormed program 0 → IsCompiled set program 0 → Verifies set → Builds bytes set
+builds bytes program set f formed c v = record {
   program = program;
   form = f;
+  verifies = v;
   agrees = λ input. (compiled_agrees set program 0 c input (unbroken input)).1;
   unbroken = unbroken;
   unstuck = λ input. (compiled_agrees set program 0 c input (unbroken input)).2;

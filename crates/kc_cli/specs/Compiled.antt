@@ -1,6 +1,14 @@
 -- Sets of classes that are made from programs.
-use Rattle.std.specs.Prelude.{◌<◌, ◌^◌, All, length}
+use Rattle.kc_core.specs.declared.tree.Program.{Program}
+use Rattle.stack_code.specs.Agrees.{IsCompiled}
+use Rattle.stack_code.specs.Frames.{IsFramed}
+use Rattle.std.specs.Prelude.{ℕ, ◌<◌, ◌^◌, All, length}
 use Rattle.class_file.specs.declared.class.Set.{Set}
+
+-- the set is the program compiled, and its method gives the frames of its code
+pub record Compiles (set : Set) (program : Program) (main : ℕ) : Type 0 where
+  pub compiled : IsCompiled set program main
+  pub framed : IsFramed compiled.method compiled.function
 
 -- the code of each method has a length that the machine can number
 abbrev pub HasShortCode : Set → Type 0

@@ -7,6 +7,7 @@ use Rattle.kc_io.specs.declared.folders.FolderRead.TheVariants as read
 use Rattle.kc_core.specs.declared.tree.Program.{Program}
 use Rattle.kc_core.specs.Runs as runs
 use Rattle.class_file.specs.declared.class.Set.{Set}
+use Rattle.class_file.specs.Verification.{Verifies}
 use Rattle.class_file.specs.Machine as machine
 use Rattle.class_file.specs.Machine.{written}
 use Rattle.stack_code.specs.Agrees.{Agrees, NeverBrokenAt, NeverStuckAt, machine_outcome}
@@ -26,11 +27,12 @@ ReadFails told before after file (ReadFailed name) = (name ≡ file) × (before 
 ReadFails told before after file Memory = Unit {0}
 ReadFails told before after file _ = ⊥
 
--- The bytes are those of a file of the form, and the set is its program compiled: the machine on it agrees with the program for
--- every input, the program's meaning is never broken, and the machine is never stuck.
+-- The bytes are those of a file of the form, and the set is its program compiled: it verifies, the machine on it agrees with the
+-- program for every input, the program's meaning is never broken, and the machine is never stuck.
 pub record Builds (bytes : List ℕ) (set : Set) : Type 0 where
   pub program : Program
   pub form : Form 0 bytes program
+  pub verifies : Verifies set
   pub agrees : Agrees set program 0
   pub unbroken : (input : List ℕ) → NeverBrokenAt program 0 input
   pub unstuck : (input : List ℕ) → NeverStuckAt set input

@@ -1,9 +1,9 @@
 //! The class files of a program.
 
 ghost use Rattle.std.specs.Prelude.{◌≡◌, ◌∷◌, [], IfOk, codes};
-ghost use Rattle.stack_code.specs.Agrees.{IsCompiled, IsOwnName};
+ghost use Rattle.stack_code.specs.Agrees.{IsOwnName};
 ghost use Rattle.form_elaboration.specs.Laws.{HasMain};
-ghost use Rattle.kc_cli.specs.Compiled.{HasShortCode};
+ghost use Rattle.kc_cli.specs.Compiled.{Compiles, HasShortCode};
 
 use class_file::class::{ClassFile, Method, Set};
 use class_file::pool::Pool;
@@ -52,7 +52,8 @@ fn class_of(alloc: Global, name: Text, pool: Pool, method: Method) -> Result<Cla
 pub fn compile(alloc: Global, program: &Program, name: Text) -> Result<Set, Fail<TooLarge>>
     requires main { HasMain program.now }
     requires own { IsOwnName name }
-    ensures compiled { IfOk result (λ set. IsCompiled set program.now 0) }
+    ensures compiled { IfOk result (λ set. Compiles set program.now 0) }
+    ensures named { IfOk result (λ set. set.main ≡ name) }
     ensures short { IfOk result (λ set. HasShortCode set) }
 {
     let functions = program.functions.as_slice();

@@ -3,7 +3,8 @@
 ghost use Rattle.std.specs.Prelude.{◌≡◌, ◌≤◌, ℕ, List, None, IfOk, IfErr};
 ghost use Rattle.kc_cli.specs.SourceFile.{IsSourceFile};
 ghost use Rattle.class_file.specs.Lots.{IsFirstLot};
-ghost use Rattle.stack_code.specs.Agrees.{NeverStuckAt};
+ghost use Rattle.class_file.specs.Verification.{Verifies};
+ghost use Rattle.class_soundness.specs.Soundness.{IsLoaded};
 ghost use Rattle.kc_cli.specs.Compiled.{HasShortCode};
 ghost use Rattle.kc_cli.specs.Execution.{HasFile, ReadFails, Builds, BuildFails, Runs};
 ghost use Rattle.kc_cli.specs.Serving.{ExecDid, ran_set};
@@ -12,11 +13,15 @@ use crate::compile::compile;
 use crate::{Code, Name, Report, class_name};
 use class_file::class::Set;
 use class_machine::{Machine, RunEnd, first_lot_is_built};
+use class_soundness::{first_lot_is_of_instructions, plain_sets_are_loaded};
 use form_elaboration::read_form;
 use kc_io::{Folder, FolderRead, Sink, Source};
 use kc_text::{Fail, Memory};
-use stack_code::method::{compiled_is_first_lot, files_have_own_names};
+use stack_code::method::{
+    compiled_has_code, compiled_is_first_lot, compiled_verifies, files_have_own_names,
+};
 use std::alloc::Global;
+use verifier::verify;
 
 // The bytes of a file.
 fn read_file<'a, T: Folder>(
@@ -47,6 +52,7 @@ fn build<'a>(alloc: Global, file: &Name<'a>, bytes: &[u8]) -> Result<Set, Report
     ensures ok { IfOk result (λ set. Builds bytes.now set) }
     ensures lot { IfOk result (λ set. IsFirstLot set) }
     ensures short { IfOk result (λ set. HasShortCode set) }
+    ensures loaded { IfOk result (λ set. IsLoaded set) }
     ensures err { IfErr result (λ r. BuildFails file.now bytes.now r) }
 {
     let program = match read_form(alloc, 0, bytes) {
@@ -67,13 +73,16 @@ fn build<'a>(alloc: Global, file: &Name<'a>, bytes: &[u8]) -> Result<Set, Report
     };
     files_have_own_names();
     compiled_is_first_lot();
+    compiled_has_code();
+    compiled_verifies();
+    plain_sets_are_loaded();
     match compile(alloc, &program, name) {
         Ok(set) => Ok(set),
         Err(_) => Err(Report::Memory),
     }
 }
 
-// The machine on a set, for at most so many steps.
+// The set goes through the verifier to the machine, for at most so many steps.
 fn run_set<I: Source, O: Sink>(
     alloc: Global,
     set: &Set,
@@ -83,13 +92,20 @@ fn run_set<I: Source, O: Sink>(
 ) -> Report<'static>
     requires short { HasShortCode set.now }
     requires lot { IsFirstLot set.now }
-    requires unstuck { (input : List ℕ) → NeverStuckAt set.now input }
+    requires loaded { IsLoaded set.now }
+    requires verifies { Verifies set.now }
     ensures ran { Runs set.now steps (I.faults input.old) (I.faults input.new) (O.faults out.old) (O.faults out.new) (O.taken out.old) (O.taken out.new) result }
     ensures input { input.new ≡ input.old }
     ensures faults { O.faults out.old ≤ O.faults out.new }
 {
     first_lot_is_built();
-    let mut machine = match Machine::start(alloc, set) {
+    first_lot_is_of_instructions();
+    let verified = match verify(alloc, set) {
+        Ok(verified) => verified,
+        // The set verifies, so this is a want of memory.
+        Err(_) => return Report::Memory,
+    };
+    let mut machine = match Machine::start_verified(alloc, &verified) {
         Ok(machine) => machine,
         Err(_) => return Report::Memory,
     };

@@ -12,7 +12,8 @@ use Rattle.class_file.specs.Rows.{target}
 use Rattle.class_file.specs.Natives.{Object}
 use Rattle.class_file.specs.Machine.{Next}
 use Rattle.stack_code.specs.Code.{Operation, Jump, bytes, back, discards, kept, kept_bytes, Emitted, plain, condition, condition_size, if_code, over, over_size, either_ops, either_bytes, if_else_code, body_size, returns, while_code}
-use Rattle.stack_code.proofs.Runs.{grows_none, Represents, Typed, On, Held, Spot, live, HasAt, has_front, has_back, written, kept_all, kept_size, both_on, Sized, factor, Rep, Reaches, Owed, Run, run_on, run_weak, run_paid, bind, bind_to, own, ends_at, Prepared, Ready, Follows, Inside, with_check, entered, aim_of, Nothing, True, Acts}
+use Rattle.stack_code.specs.Implements.{Held, Activation}
+use Rattle.stack_code.proofs.Runs.{grows_none, Represents, Typed, On, live, HasAt, has_front, has_back, written, kept_all, kept_size, both_on, Sized, factor, Rep, Reaches, Owed, Run, run_on, run_weak, run_paid, bind, bind_to, own, ends_at, Prepared, Ready, Follows, Inside, with_check, entered, aim_of, Nothing, True, Acts}
 use Rattle.stack_code.proofs.Steps.{jump}
 use Rattle.stack_code.proofs.Lists.{bytes_append}
 use Rattle.stack_code.proofs.Single.{behind}
@@ -89,16 +90,16 @@ whichever false a b e f = f
 
 module _ (set : Set) (S : ℕ) where
   -- the code behind a condition
-  behind_condition : (o : Spot) (c : Emitted) → Sized c → (at n : ℕ) (more : List Operation) → c.goes_on ≡ true → HasAt set o at (condition c n ++ kept c.goes_on more) → HasAt set o (at + condition_size c) more
+  behind_condition : (o : Activation) (c : Emitted) → Sized c → (at n : ℕ) (more : List Operation) → c.goes_on ≡ true → HasAt set o at (condition c n ++ kept c.goes_on more) → HasAt set o (at + condition_size c) more
   behind_condition o c zc at n more on h =
       written set o (at + condition_size c) c.goes_on more on (subst (λ m. HasAt set o (at + m) (kept c.goes_on more)) (condition_sized c zc n) (has_back set o at (condition c n) (kept c.goes_on more) h))
 
   -- a state that comes later
-  abbrev Later : State → Spot → (at : ℕ) → Rep set S → ℕ → List Slot → (end : ℕ) → (State → Completion) → Type 0
+  abbrev Later : State → Activation → (at : ℕ) → Rep set S → ℕ → List Slot → (end : ℕ) → (State → Completion) → Type 0
   Later s o at rep b st end f = (s1 : State) (ls1 : List Slot) (h1 : List Object) → s1.units ≤ s.units → Held h1 ls1 s1.locals → Run set S o rep (live o at ls1 st h1 s1) h1 s1.units factor b ls1 end st (f s1)
 
   -- a condition, and then the code of one way or the other
-  chosen_by : (t : Bool) (d : ℕ) (span : Span) (c : Emitted) (fc held failed : State → Completion) (n b : ℕ) (rep : Rep set S) → c.always ≡ t → c.nodes ≤ b → Acts set S d c fc → (s : State) (o : Spot) (at end : ℕ) (ls st : List Slot) (h : List Object) → Prepared set S d c (if t then [] else c.test false n) s o at ls h →
+  chosen_by : (t : Bool) (d : ℕ) (span : Span) (c : Emitted) (fc held failed : State → Completion) (n b : ℕ) (rep : Rep set S) → c.always ≡ t → c.nodes ≤ b → Acts set S d c fc → (s : State) (o : Activation) (at end : ℕ) (ls st : List Slot) (h : List Object) → Prepared set S d c (if t then [] else c.test false n) s o at ls h →
       (c.goes_on ≡ true → Later s o (at + (if t then 0 else c.test_size false)) rep (b - c.nodes) st end held) →
       (c.goes_on ≡ true → c.always ≡ false → Later s o (at + (if t then 0 else c.test_size false) + n) rep (b - c.nodes) st end failed) →
       Run set S o rep (live o at ls st h s) h s.units factor b ls end st (then_do (fc s) (λ v. on_boolean span v (λ t. either t held failed)))
@@ -140,19 +141,19 @@ module _ (set : Set) (S : ℕ) where
       last (Text t) s1 r = tt
       last UnitValue s1 r = tt
 
-  chosen : (d : ℕ) (span : Span) (c : Emitted) (fc held failed : State → Completion) (n b : ℕ) (rep : Rep set S) → c.nodes ≤ b → Acts set S d c fc → (s : State) (o : Spot) (at end : ℕ) (ls st : List Slot) (h : List Object) → Prepared set S d c (condition c n) s o at ls h →
+  chosen : (d : ℕ) (span : Span) (c : Emitted) (fc held failed : State → Completion) (n b : ℕ) (rep : Rep set S) → c.nodes ≤ b → Acts set S d c fc → (s : State) (o : Activation) (at end : ℕ) (ls st : List Slot) (h : List Object) → Prepared set S d c (condition c n) s o at ls h →
       (c.goes_on ≡ true → Later s o (at + condition_size c) rep (b - c.nodes) st end held) → (c.goes_on ≡ true → c.always ≡ false → Later s o (at + condition_size c + n) rep (b - c.nodes) st end failed) →
       Run set S o rep (live o at ls st h s) h s.units factor b ls end st (then_do (fc s) (λ v. on_boolean span v (λ t. either t held failed)))
   chosen d span c fc held failed n b rep le rc s o at end ls st h ready on_held on_failed = chosen_by c.always d span c fc held failed n b rep refl le rc s o at end ls st h ready on_held on_failed
 
   -- a part's code, whose value is the whole's
-  part : (d : ℕ) (a : Emitted) (fa : State → Completion) (goes : Bool) → (a.goes_on ≡ true → goes ≡ true) → Follows set S d a fa → (s : State) (o : Spot) (at end b : ℕ) (ls st : List Slot) (h : List Object) → at + a.size ≡ end → a.nodes ≤ b → Ready set S d a s o at ls h → Run set S o (On goes Represents) (live o at ls st h s) h s.units factor b ls end st (fa s)
+  part : (d : ℕ) (a : Emitted) (fa : State → Completion) (goes : Bool) → (a.goes_on ≡ true → goes ≡ true) → Follows set S d a fa → (s : State) (o : Activation) (at end b : ℕ) (ls st : List Slot) (h : List Object) → at + a.size ≡ end → a.nodes ≤ b → Ready set S d a s o at ls h → Run set S o (On goes Represents) (live o at ls st h s) h s.units factor b ls end st (fa s)
   part d a fa goes on ra s o at end b ls st h e le ready =
       ends_at set S o (On goes Represents) (live o at ls st h s) h s.units factor b ls (at + a.size) end st (fa s) e
       (run_weak set S o (On goes Represents) (On a.goes_on (Typed a.ty)) (λ v. Some (at + a.size)) st (live o at ls st h s) h s.units factor b 0 a.nodes ls (omega arith) le (λ h' v xs is. (on is.0, is.1.1)) (fa s) (ra s o at ls st h ready))
 
   -- nothing is done, and Unit is the value
-  idle : (goes : Bool) → goes ≡ true → (s : State) (o : Spot) (at end b : ℕ) (ls st : List Slot) (h : List Object) → at ≡ end → Held h ls s.locals → Run set S o (On goes Represents) (live o at ls st h s) h s.units factor b ls end st (Gives UnitValue s)
+  idle : (goes : Bool) → goes ≡ true → (s : State) (o : Activation) (at end b : ℕ) (ls st : List Slot) (h : List Object) → at ≡ end → Held h ls s.locals → Run set S o (On goes Represents) (live o at ls st h s) h s.units factor b ls end st (Gives UnitValue s)
   idle goes on s o at end b ls st h e held =
       own set S 0 (live o at ls st h s) h factor b ls ls h [] (λ h' ys. On goes Represents h' UnitValue ys) s (λ ls' h' ys. live o end ls' (ys ++ st) h' s) (omega arith) (ap (λ n. live o n ls st h s) e) (on, refl) (grows_none h) held refl
 

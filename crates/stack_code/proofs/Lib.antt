@@ -13,6 +13,7 @@ pub mod Parts
 pub mod Room
 pub mod Filled
 pub mod Placed
+pub mod Implementing
 pub mod Agree
 pub mod Emitting
 pub mod Measuring
@@ -28,3 +29,8 @@ pub mod FrameExamples
 pub mod Fitting
 pub mod Ways
 pub mod Tracing
+pub mod Walks
+pub mod Passing
+pub mod Layered
+pub mod Listed
+pub mod Entering

@@ -6,7 +6,7 @@ use Rattle.kc_core.specs.Values.{Value}
 use Rattle.class_file.specs.declared.value.Value.{Value as Slot}
 use Rattle.class_file.specs.Natives.{Object}
 use Rattle.stack_code.specs.Code.{Operation, bytes}
-use Rattle.stack_code.proofs.Runs.{Grows, Holds, Held}
+use Rattle.stack_code.specs.Implements.{Grows, Holds, Held}
 
 pub bytes_append : (a b : List Operation) → bytes (a ++ b) ≡ bytes a + bytes b
 bytes_append [] b = omega arith

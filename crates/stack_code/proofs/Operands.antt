@@ -17,8 +17,9 @@ use Rattle.class_file.specs.declared.class.Set.{Set}
 use Rattle.class_file.specs.Natives.{Object}
 use Rattle.class_file.specs.Machine.{Next, Over, Threw, on_from, after, or_zero_divisor, int_answer, Goes}
 use Rattle.stack_code.specs.Code.{Operation, Compute, Negate, bytes, Emitted, stores, then_code, two_code, operator_of, local_bytes, bit, kept, kept_bytes}
-use Rattle.stack_code.proofs.Runs.{grows_none, Represents, represents_on, Typed, On, Holds, Held, Spot, Quiet, live, HasAt, has_front, written, kept_all, both_on, Sized, factor, Reaches, Run, run_on, bind, evident, own, ends_at, Ready, Follows, Inside, with_check, entered}
-use Rattle.stack_code.proofs.Steps.{frame, state, store, negate, compute}
+use Rattle.stack_code.specs.Implements.{running as frame, state_at as state, Holds, Held, Activation}
+use Rattle.stack_code.proofs.Runs.{grows_none, Represents, represents_on, Typed, On, Quiet, live, HasAt, has_front, written, kept_all, both_on, Sized, factor, Reaches, Run, run_on, bind, evident, own, ends_at, Ready, Follows, Inside, with_check, entered}
+use Rattle.stack_code.proofs.Steps.{store, negate, compute}
 use Rattle.stack_code.proofs.Lists.{get_same, get_other, set_length, within, held_write}
 use Rattle.stack_code.proofs.Single.{behind, unhandled}
 
@@ -28,7 +29,7 @@ not_less n m le = le-ltb n m le
 module _ (set : Set) (S : ℕ) where
   -- what operations do that stand behind a value of this type
   abbrev pub Tail : TypeTree → List Operation → (Value → State → Completion) → Type 0
-  Tail ty tail go = (v : Value) (xs : List Slot) (s : State) (o : Spot) (at : ℕ) (ls st : List Slot) (h : List Object) → HasAt set o at tail → Held h ls s.locals → Quiet set o → Typed ty h v xs → Run set S o Represents (live o at ls (xs ++ st) h s) h s.units factor 0 ls (at + bytes tail) st (go v s)
+  Tail ty tail go = (v : Value) (xs : List Slot) (s : State) (o : Activation) (at : ℕ) (ls st : List Slot) (h : List Object) → HasAt set o at tail → Held h ls s.locals → Quiet set o → Typed ty h v xs → Run set S o Represents (live o at ls (xs ++ st) h s) h s.units factor 0 ls (at + bytes tail) st (go v s)
 
   -- a child, and operations that take its value
   pub after_value : (d : ℕ) (a : Emitted) (fa : State → Completion) (tail : List Operation) (ty : TypeTree) (span : Span) (go : Value → State → Completion) → Sized a → Tail a.ty tail go → Follows set S d a fa → Follows set S (suc d) (then_code a tail ty) (λ s. enter s.units s (λ s1. then_do (then_do (fa s1) go) (checked span ty)))
@@ -68,7 +69,7 @@ module _ (set : Set) (S : ℕ) where
   negate_follows d ty span a fa za ra = after_value d a fa (Negate ∷ []) ty span (λ x. on_int span x (λ m. Gives (Int (negated m)))) za (negate_tail a.ty span) ra
 
   -- a value that takes one place goes to a local variable
-  stored_run : (o : Spot) (at : ℕ) (ls st : List Slot) (h : List Object) (s : State) (k : SlotKind) (x : ℕ) (w : Slot) (v : Value) (old : Option Value) → slice_get s.locals x ≡ Some old → Held h ls s.locals → ((i : ℕ) → on_from set 1 (live o at ls (w ∷ st) h s) ≡ live o (at + local_bytes x) (slice_set ls x w) st h s) → Holds h v (Some w) → Run set S o Represents (live o at ls (w ∷ st) h s) h s.units factor 0 ls (at + (local_bytes x + 0)) st (Gives UnitValue (record s { locals = slice_set s.locals x (Some v) }))
+  stored_run : (o : Activation) (at : ℕ) (ls st : List Slot) (h : List Object) (s : State) (k : SlotKind) (x : ℕ) (w : Slot) (v : Value) (old : Option Value) → slice_get s.locals x ≡ Some old → Held h ls s.locals → ((i : ℕ) → on_from set 1 (live o at ls (w ∷ st) h s) ≡ live o (at + local_bytes x) (slice_set ls x w) st h s) → Holds h v (Some w) → Run set S o Represents (live o at ls (w ∷ st) h s) h s.units factor 0 ls (at + (local_bytes x + 0)) st (Gives UnitValue (record s { locals = slice_set s.locals x (Some v) }))
   stored_run o at ls st h s k x w v old e held runs is =
       own set S 1 (live o at ls (w ∷ st) h s) h factor 0 ls (slice_set ls x w) h [] (λ h' ys. Represents h' UnitValue ys) s' (λ ls' h' ys. live o (at + (local_bytes x + 0)) ls' (ys ++ st) h' s') (omega arith)
       (runs 0 ∙ (let e : at + local_bytes x ≡ at + (local_bytes x + 0) = omega arith in ap (λ n. live o n (slice_set ls x w) st h s) e))
@@ -127,7 +128,7 @@ module _ (set : Set) (S : ℕ) where
   answers Div m n = refl
   answers Rem m n = refl
 
-  compute_tail : (span : Span) (op : BinaryOp) (x y : Value) (xs ys : List Slot) (s : State) (o : Spot) (at : ℕ) (ls st : List Slot) (h : List Object) → HasAt set o at (Compute (operator_of op) ∷ []) → Held h ls s.locals → Quiet set o → Represents h x xs → Represents h y ys → Run set S o Represents (live o at ls (ys ++ (xs ++ st)) h s) h s.units factor 0 ls (at + 1) st (on_int span x (λ m. on_int span y (λ n. number_or_zero_divisor (arithmetic op m n))) s)
+  compute_tail : (span : Span) (op : BinaryOp) (x y : Value) (xs ys : List Slot) (s : State) (o : Activation) (at : ℕ) (ls st : List Slot) (h : List Object) → HasAt set o at (Compute (operator_of op) ∷ []) → Held h ls s.locals → Quiet set o → Represents h x xs → Represents h y ys → Run set S o Represents (live o at ls (ys ++ (xs ++ st)) h s) h s.units factor 0 ls (at + 1) st (on_int span x (λ m. on_int span y (λ n. number_or_zero_divisor (arithmetic op m n))) s)
   compute_tail span op (Int m) (Int n) xs ys s o at ls st h code held quiet isx isy = by_answer (arithmetic op m n) refl
     where
       c : Next

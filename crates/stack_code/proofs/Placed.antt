@@ -9,7 +9,8 @@ use Rattle.class_file.specs.declared.instr.Instr.TheVariants as instr
 use Rattle.class_file.specs.Rows.{length_of, instr_at}
 use Rattle.class_file.specs.Machine.{fetch, method_at, instr_in, class_pool}
 use Rattle.stack_code.specs.Code.{Operation, bytes_of, Spells}
-use Rattle.stack_code.proofs.Runs.{Spot, HasAt}
+use Rattle.stack_code.specs.Implements.{Activation}
+use Rattle.stack_code.proofs.Runs.{HasAt}
 
 positive : (i : Instr) → 1 ≤ length_of i
 positive instr.Nop = omega arith
@@ -44,7 +45,7 @@ lengths_append : (a b : List Instr) → lengths (a ++ b) ≡ lengths a + lengths
 lengths_append [] b = omega arith
 lengths_append (x ∷ a) b = let r = lengths_append a b in omega (arith, r)
 
-module _ (set : Set) (o : Spot) (m : Method) (there : method_at set o.class o.method ≡ Some m) where
+module _ (set : Set) (o : Activation) (m : Method) (there : method_at set o.class o.method ≡ Some m) where
   fetched : (at : ℕ) (i : Instr) → instr_at m.code at ≡ Some i → fetch set o.class o.method at ≡ Some i
   unfolding fetch
   fetched at i e = ap (λ w. instr_in w at) there ∙ e

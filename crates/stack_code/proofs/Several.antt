@@ -14,7 +14,8 @@ use Rattle.class_file.specs.declared.class.Set.{Set}
 use Rattle.class_file.specs.Natives.{Object}
 use Rattle.class_file.specs.Machine.{on_from}
 use Rattle.stack_code.specs.Code.{Operation, Call, bytes, Emitted, Several, nothing, followed, further_texts, texts, values, in_turn, whole, to_text, discards, code_of, bit, kept, kept_bytes}
-use Rattle.stack_code.proofs.Runs.{grows_none, Represents, Typed, On, Held, Spot, Quiet, live, HasAt, has_front, has_back, written, kept_all, kept_none, kept_size, both_on, Sized, factor, Reaches, Run, Rep, run_on, run_weak, run_own, bind, own, ends_at, wider, Ready, Follows, Inside, with_check, entered}
+use Rattle.stack_code.specs.Implements.{Held, Activation}
+use Rattle.stack_code.proofs.Runs.{grows_none, Represents, Typed, On, Quiet, live, HasAt, has_front, has_back, written, kept_all, kept_none, kept_size, both_on, Sized, factor, Reaches, Run, Rep, run_on, run_weak, run_own, bind, own, ends_at, wider, Ready, Follows, Inside, with_check, entered}
 use Rattle.stack_code.proofs.Steps.{discard}
 use Rattle.stack_code.proofs.Lists.{bytes_append}
 use Rattle.stack_code.proofs.Single.{behind}
@@ -52,7 +53,7 @@ whole_size s tail a = let p = bytes_append s.code (kept s.goes_on tail) in let k
 
 module _ (set : Set) (S : ℕ) where
   -- a value of a type goes off the stack
-  pub discarded : (o : Spot) (rep : Rep set S) (at end : ℕ) (ls st st0 : List Slot) (h : List Object) (s : State) (B : ℕ) (ty : TypeTree) (v : Value) (xs : List Slot) → HasAt set o at (discards ty) → Typed ty h v xs → Held h ls s.locals → (r : Completion) → Run set S o rep (live o (at + bytes (discards ty)) ls st h s) h s.units 2 B ls end st0 r → Run set S o rep (live o at ls (xs ++ st) h s) h s.units 4 B ls end st0 r
+  pub discarded : (o : Activation) (rep : Rep set S) (at end : ℕ) (ls st st0 : List Slot) (h : List Object) (s : State) (B : ℕ) (ty : TypeTree) (v : Value) (xs : List Slot) → HasAt set o at (discards ty) → Typed ty h v xs → Held h ls s.locals → (r : Completion) → Run set S o rep (live o (at + bytes (discards ty)) ls st h s) h s.units 2 B ls end st0 r → Run set S o rep (live o at ls (xs ++ st) h s) h s.units 4 B ls end st0 r
   discarded o rep at end ls st st0 h s B type_is.Int (Int z) xs code is held r run =
       run_own set S 1 o rep end st0 (live o at ls (xs ++ st) h s) (live o (at + 1) ls st h s) h h 4 2 B ls ls s (omega arith)
       (ap (λ ys. on_from set 1 (live o at ls (ys ++ st) h s)) is.1 ∙ discard set o at ls st h s (slot.Int z) code.0 refl) (grows_none h) held refl r run
@@ -80,22 +81,22 @@ module _ (set : Set) (S : ℕ) where
 
 module _ (set : Set) (S : ℕ) (d : ℕ) (ev : Core → State → Completion) (sized : (e : Core) → Sized (code_of e)) (ih : (e : Core) → Follows set S d (code_of e) (ev e)) where
   -- what several children find
-  pub record Readies (x : Several) (s : State) (o : Spot) (at : ℕ) (ls : List Slot) (h : List Object) : Type 0 where
+  pub record Readies (x : Several) (s : State) (o : Activation) (at : ℕ) (ls : List Slot) (h : List Object) : Type 0 where
     pub deep : s.units ≤ d
     pub small : x.nodes ≤ S
     pub code : HasAt set o at x.code
     pub held : Held h ls s.locals
     pub quiet : Quiet set o
 
-  pub first_ready : (e : Core) (between : List Operation) (more : Several) (s : State) (o : Spot) (at : ℕ) (ls : List Slot) (h : List Object) → Readies (followed (code_of e) between more) s o at ls h → Ready set S d (code_of e) s o at ls h
+  pub first_ready : (e : Core) (between : List Operation) (more : Several) (s : State) (o : Activation) (at : ℕ) (ls : List Slot) (h : List Object) → Readies (followed (code_of e) between more) s o at ls h → Ready set S d (code_of e) s o at ls h
   first_ready e between more s o at ls h r =
       record { deep = r.deep; small = omega (arith, r.small); code = has_front set o at (code_of e).code (kept (code_of e).goes_on (between ++ more.code)) r.code; held = r.held; quiet = r.quiet }
 
-  pub between_at : (e : Core) (between : List Operation) (more : Several) (s : State) (o : Spot) (at : ℕ) (ls : List Slot) (h : List Object) → Readies (followed (code_of e) between more) s o at ls h → (code_of e).goes_on ≡ true → HasAt set o (at + (code_of e).size) (between ++ more.code)
+  pub between_at : (e : Core) (between : List Operation) (more : Several) (s : State) (o : Activation) (at : ℕ) (ls : List Slot) (h : List Object) → Readies (followed (code_of e) between more) s o at ls h → (code_of e).goes_on ≡ true → HasAt set o (at + (code_of e).size) (between ++ more.code)
   between_at e between more s o at ls h r on =
       written set o (at + (code_of e).size) (code_of e).goes_on (between ++ more.code) on (behind set o (code_of e) (sized e) at (kept (code_of e).goes_on (between ++ more.code)) r.code)
 
-  pub more_ready : (e : Core) (between : List Operation) (more : Several) (s s1 : State) (o : Spot) (at n : ℕ) (ls ls1 : List Slot) (h h1 : List Object) → Readies (followed (code_of e) between more) s o at ls h → (code_of e).goes_on ≡ true → s1.units ≤ s.units → Held h1 ls1 s1.locals → n ≡ at + (code_of e).size + bytes between → Readies more s1 o n ls1 h1
+  pub more_ready : (e : Core) (between : List Operation) (more : Several) (s s1 : State) (o : Activation) (at n : ℕ) (ls ls1 : List Slot) (h h1 : List Object) → Readies (followed (code_of e) between more) s o at ls h → (code_of e).goes_on ≡ true → s1.units ≤ s.units → Held h1 ls1 s1.locals → n ≡ at + (code_of e).size + bytes between → Readies more s1 o n ls1 h1
   more_ready e between more s s1 o at n ls ls1 h h1 r on less held i = record {
     deep = omega (arith, less, r.deep);
     small = omega (arith, r.small);
@@ -107,7 +108,7 @@ module _ (set : Set) (S : ℕ) (d : ℕ) (ev : Core → State → Completion) (s
   -- PARTS IN TURN
   -- several children do what a function of the state does
   abbrev pub Does : Several → (State → Completion) → Type 0
-  Does x f = (s : State) (o : Spot) (at : ℕ) (ls st : List Slot) (h : List Object) → Readies x s o at ls h → Run set S o (On x.goes_on Represents) (live o at ls st h s) h s.units 2 x.nodes ls (at + x.size) st (f s)
+  Does x f = (s : State) (o : Activation) (at : ℕ) (ls st : List Slot) (h : List Object) → Readies x s o at ls h → Run set S o (On x.goes_on Represents) (live o at ls st h s) h s.units 2 x.nodes ls (at + x.size) st (f s)
 
   turns_follow : (e : Core) (es : List Core) (v0 : Value) → Does (in_turn (map code_of (e ∷ es))) (in_order ev (e ∷ es) v0)
   turns_follow e [] v0 s o at ls st h ready =

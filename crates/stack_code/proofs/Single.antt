@@ -17,11 +17,12 @@ use Rattle.class_file.specs.Classes.{built_ins}
 use Rattle.class_file.specs.Natives.{Object, TextObject, Instance, name_of, text_in}
 use Rattle.class_file.specs.Machine.{Active, State as MachineState, Over, Threw, thrown, unwound, goes_on, catches, with_exception, class_pool}
 use Rattle.stack_code.specs.Code.{Operation, PushInt, PushText, bytes_of, bytes, Emitted, leaf, loads, local_bytes, bit}
-use Rattle.stack_code.proofs.Runs.{grows_none, Represents, Typed, On, Held, held_on, Spot, Unhandled, live, HasAt, has_back, Sized, factor, Run, own, Ready, Follows, Inside, with_check, entered}
+use Rattle.stack_code.specs.Implements.{Held, Activation, Unhandled}
+use Rattle.stack_code.proofs.Runs.{grows_none, Represents, Typed, On, held_on, live, HasAt, has_back, Sized, factor, Run, own, Ready, Follows, Inside, with_check, entered}
 use Rattle.stack_code.proofs.Steps.{push_int, push_text, load}
 use Rattle.stack_code.proofs.Lists.{within, get_new, grows_more, held_unset}
 
-pub behind : (set : Set) (o : Spot) (x : Emitted) → Sized x → (at : ℕ) (b : List Operation) → HasAt set o at (x.code ++ b) → HasAt set o (at + x.size) b
+pub behind : (set : Set) (o : Activation) (x : Emitted) → Sized x → (at : ℕ) (b : List Operation) → HasAt set o at (x.code ++ b) → HasAt set o (at + x.size) b
 behind set o x sized at b h = subst (λ n. HasAt set o (at + n) b) sized.whole (has_back set o at x.code b h)
 
 -- a throw that no frame handles ends the run
@@ -81,7 +82,7 @@ module _ (set : Set) (S : ℕ) where
       one n m = omega arith
 
       -- the value is of the type
-      of_type : (s : State) (o : Spot) (at : ℕ) (ls st : List Slot) (h : List Object) (ty : TypeTree) → Held h ls s.locals → HasAt set o at (loads ty x) → (v : Value) → slice_get s.locals x ≡ Some (Some v) → Run set S o (On true (Typed ty)) (live o at ls st h s) h s.units factor 0 ls (at + bytes (loads ty x)) st (then_do (Gives v s) (checked span ty))
+      of_type : (s : State) (o : Activation) (at : ℕ) (ls st : List Slot) (h : List Object) (ty : TypeTree) → Held h ls s.locals → HasAt set o at (loads ty x) → (v : Value) → slice_get s.locals x ≡ Some (Some v) → Run set S o (On true (Typed ty)) (live o at ls st h s) h s.units factor 0 ls (at + bytes (loads ty x)) st (then_do (Gives v s) (checked span ty))
       of_type s o at ls st h type_is.Int held code (Int z) e =
           own set S 1 (live o at ls st h s) h factor 0 ls ls h (slot.Int z ∷ []) (λ h' xs. On true (Typed type_is.Int) h' (Int z) xs) s (λ ls' h' xs. live o (at + bytes (loads type_is.Int x)) ls' (xs ++ st) h' s) (omega arith)
           (load set o at ls st h s kinds.Int x (slot.Int z) code.0 (held.same x (Int z) e) refl ∙ ap (λ n. live o n ls (slot.Int z ∷ st) h s) (one at (local_bytes x)))
@@ -112,7 +113,7 @@ module _ (set : Set) (S : ℕ) where
       of_type s o at ls st h type_is.Unit held code (Int z) e = tt
       of_type s o at ls st h type_is.Unit held code (Text t) e = tt
 
-      found : (s : State) (o : Spot) (at : ℕ) (ls st : List Slot) (h : List Object) → Ready set S d (leaf (loads ty x) ty) s o at ls h → (w : Option (Option Value)) → slice_get s.locals x ≡ w → Run set S o (On true (Typed ty)) (live o at ls st h s) h s.units factor 0 ls (at + bytes (loads ty x)) st (then_do (read span w s) (checked span ty))
+      found : (s : State) (o : Activation) (at : ℕ) (ls st : List Slot) (h : List Object) → Ready set S d (leaf (loads ty x) ty) s o at ls h → (w : Option (Option Value)) → slice_get s.locals x ≡ w → Run set S o (On true (Typed ty)) (live o at ls st h s) h s.units factor 0 ls (at + bytes (loads ty x)) st (then_do (read span w s) (checked span ty))
       found s o at ls st h ready (Some (Some v)) e = of_type s o at ls st h ty ready.held ready.code v e
       found s o at ls st h ready (Some None) e = tt
       found s o at ls st h ready None e = tt
@@ -121,7 +122,7 @@ module _ (set : Set) (S : ℕ) where
   pub unset_follows : (d : ℕ) (ty : TypeTree) (span : Span) (x : ℕ) → Follows set S (suc d) (leaf [] ty) (λ s. enter s.units s (λ s1. then_do (set_local span (slice_get s1.locals x) x None s1) (checked span ty)))
   unset_follows d ty span x = entered set S d 0 (leaf [] ty) _ (omega arith) (with_check set S d 0 (leaf [] ty) span (λ s. set_local span (slice_get s.locals x) x None s) (λ s o at ls st h ready. found s o at ls st h ready (slice_get s.locals x) refl))
     where
-      found : (s : State) (o : Spot) (at : ℕ) (ls st : List Slot) (h : List Object) → Ready set S d (leaf [] ty) s o at ls h → (w : Option (Option Value)) → slice_get s.locals x ≡ w → Run set S o (On true Represents) (live o at ls st h s) h s.units factor 0 ls (at + 0) st (set_local span w x None s)
+      found : (s : State) (o : Activation) (at : ℕ) (ls st : List Slot) (h : List Object) → Ready set S d (leaf [] ty) s o at ls h → (w : Option (Option Value)) → slice_get s.locals x ≡ w → Run set S o (On true Represents) (live o at ls st h s) h s.units factor 0 ls (at + 0) st (set_local span w x None s)
       found s o at ls st h ready (Some old) e =
           let s' : State = record s { locals = slice_set s.locals x None } in
           own set S 0 (live o at ls st h s) h factor 0 ls ls h [] (λ h' xs. On true Represents h' UnitValue xs) s' (λ ls' h' xs. live o (at + 0) ls' (xs ++ st) h' s') (omega arith)

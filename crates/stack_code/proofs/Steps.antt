@@ -22,16 +22,10 @@ use Rattle.class_file.specs.Natives.{Object, TextObject, NativeEffect, Makes, Wr
 use Rattle.class_file.specs.Lots.{CallsNative, native_params, native_called}
 use Rattle.class_file.specs.Machine.{Active, State, Next, Static, callee, with, with_started, is_marked, starting, unstarted, Popped, popped, static_call, step, on_from, resolve, constant, effect, after, executed, loaded, invoked, run, native_step, has_kind, is_narrow, int_answer, or_zero_divisor, holds, handed, places, stored, Effect, Goes, Fails}
 use Rattle.stack_code.specs.Code.{native_of, Operation, PushInt, PushText, Load, Store, Compute, Negate, Discard, Call, Jump, JumpIf, JumpCompare, Leave, bytes_of, bit}
-use Rattle.stack_code.proofs.Runs.{Spot, live, At}
+use Rattle.stack_code.specs.Implements.{Activation, running as frame, state_at as state}
+use Rattle.stack_code.proofs.Runs.{live, At}
 
--- the running frame
-abbrev pub frame : Spot → ℕ → List Slot → List Slot → Active
-frame o at ls st = record { class = o.class; method = o.method; at = at; locals = ls; stack = st; starts = false }
-
-abbrev pub state : Spot → ℕ → List Slot → List Slot → List Object → Known → State
-state o at ls st h s = record { frames = frame o at ls st ∷ o.rest; heap = h; statics = o.statics; started = o.started; input = s.input; out = s.out }
-
-module _ (set : Set) (o : Spot) where
+module _ (set : Set) (o : Activation) where
   -- a step is what the effect of the instruction's row makes of the state
   executes : (at : ℕ) (ls st : List Slot) (h : List Object) (s : Known) (op : Operation) (a : At set o at op) → on_from set 1 (live o at ls st h s) ≡ after set (state o at ls st h s) (frame o at ls st) o.rest (at + bytes_of op) (effect (row_of at a.instr) (at + bytes_of op) ls st)
   unfolding step

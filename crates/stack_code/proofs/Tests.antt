@@ -13,7 +13,8 @@ use Rattle.class_file.specs.declared.class.Set.{Set}
 use Rattle.class_file.specs.Natives.{Object}
 use Rattle.class_file.specs.Machine.{Next, Over, Threw, on_from, holds}
 use Rattle.stack_code.specs.Code.{Operation, PushInt, JumpIf, JumpCompare, bytes_of, bytes, bit, truth_test, truth, kept, kept_bytes, two_ops, two_bytes, Emitted, plain, testing, leaf, truth_code, compared, negated, decided, short}
-use Rattle.stack_code.proofs.Runs.{grows_none, Represents, represents_on, Typed, On, Held, Spot, live, At, HasAt, has_front, has_back, written, kept_all, kept_size, both_on, Sized, factor, Rep, Reaches, reaches_on, reaches_weak, hangs_weak, Owed, RunTo, Run, run_to_on, run_weak, bind_to, evident, never, own, Prepared, Ready, Follows, Inside, with_check, entered, enters, lands, aim_of, Nothing, True, Tests, Sure, Acts}
+use Rattle.stack_code.specs.Implements.{Held, Activation}
+use Rattle.stack_code.proofs.Runs.{grows_none, Represents, represents_on, Typed, On, live, At, HasAt, has_front, has_back, written, kept_all, kept_size, both_on, Sized, factor, Rep, Reaches, reaches_on, reaches_weak, hangs_weak, Owed, RunTo, Run, run_to_on, run_weak, bind_to, evident, never, own, Prepared, Ready, Follows, Inside, with_check, entered, enters, lands, aim_of, Nothing, True, Tests, Sure, Acts}
 use Rattle.stack_code.proofs.Steps.{push_int, jump, jump_if, jump_compare}
 use Rattle.stack_code.proofs.Lists.{bytes_append}
 use Rattle.stack_code.proofs.Single.{behind}
@@ -92,19 +93,19 @@ same_lands false false to end = refl
 
 module _ (set : Set) (S : ℕ) where
   -- up to other names of the same places
-  pub test_at : (o : Spot) (rep : Rep set S) (c : Next) (h : List Object) (u A B : ℕ) (ls : List Slot) (w : Bool) (to1 to end1 end : ℕ) (st : List Slot) (r : Completion) → to1 ≡ to → end1 ≡ end → RunTo set S o rep c h u A B ls (aim_of w to1 end1) st r → RunTo set S o rep c h u A B ls (aim_of w to end) st r
+  pub test_at : (o : Activation) (rep : Rep set S) (c : Next) (h : List Object) (u A B : ℕ) (ls : List Slot) (w : Bool) (to1 to end1 end : ℕ) (st : List Slot) (r : Completion) → to1 ≡ to → end1 ≡ end → RunTo set S o rep c h u A B ls (aim_of w to1 end1) st r → RunTo set S o rep c h u A B ls (aim_of w to end) st r
   test_at o rep c h u A B ls w to1 to end1 end st r e f g =
       subst (λ m. RunTo set S o rep c h u A B ls (aim_of w m end) st r) e (subst (λ m. RunTo set S o rep c h u A B ls (aim_of w to1 m) st r) f g)
 
   -- a jump by a Boolean on the stack
-  branches : (o : Spot) (at : ℕ) (ls st : List Slot) (h : List Object) (s : State) (w b : Bool) (n : ℕ) → At set o at (JumpIf (truth_test w) (n + 3)) → on_from set 1 (live o at ls (slot.Int (bit b) ∷ st) h s) ≡ live o (lands w (at + 3 + n) (at + 3) b) ls st h s
+  branches : (o : Activation) (at : ℕ) (ls st : List Slot) (h : List Object) (s : State) (w b : Bool) (n : ℕ) → At set o at (JumpIf (truth_test w) (n + 3)) → on_from set 1 (live o at ls (slot.Int (bit b) ∷ st) h s) ≡ live o (lands w (at + 3 + n) (at + 3) b) ls st h s
   branches o at ls st h s true true n a = jump_if set o at ls st h s test_is.Ne (n + 3) (pos 1) true a refl ∙ ap (λ m. live o m ls st h s) (let e : at + (n + 3) ≡ at + 3 + n = omega arith in e)
   branches o at ls st h s true false n a = jump_if set o at ls st h s test_is.Ne (n + 3) (pos 0) false a refl
   branches o at ls st h s false true n a = jump_if set o at ls st h s test_is.Eq (n + 3) (pos 1) false a refl
   branches o at ls st h s false false n a = jump_if set o at ls st h s test_is.Eq (n + 3) (pos 0) true a refl ∙ ap (λ m. live o m ls st h s) (let e : at + (n + 3) ≡ at + 3 + n = omega arith in e)
 
   -- a value, and a jump by it
-  plain_test_on : (o : Spot) (c : Next) (h : List Object) (u B at : ℕ) (ls st : List Slot) (ty : TypeTree) (w : Bool) (n : ℕ) → At set o at (JumpIf (truth_test w) (n + 3)) → (r : Completion) → Run set S o (Typed ty) c h u 0 B ls at st r → RunTo set S o Nothing c h u 1 B ls (aim_of w (at + 3 + n) (at + 3)) st r
+  plain_test_on : (o : Activation) (c : Next) (h : List Object) (u B at : ℕ) (ls st : List Slot) (ty : TypeTree) (w : Bool) (n : ℕ) → At set o at (JumpIf (truth_test w) (n + 3)) → (r : Completion) → Run set S o (Typed ty) c h u 0 B ls at st r → RunTo set S o Nothing c h u 1 B ls (aim_of w (at + 3 + n) (at + 3)) st r
   plain_test_on o c h u B at ls st ty w n a (Gives (Int z) s) r = tt
   plain_test_on o c h u B at ls st ty w n a (Gives (Boolean b) s) r =
       reaches_on set S c h u 1 B 0 B 3 0 ls s s (λ h' xs. Typed ty h' (Boolean b) xs) (λ h' xs. xs ≡ []) (λ ls' h' xs. live o at ls' (xs ++ st) h' s) (λ ls' h' xs. live o (lands w (at + 3 + n) (at + 3) b) ls' (xs ++ st) h' s) r (omega arith) (omega arith)
@@ -116,7 +117,7 @@ module _ (set : Set) (S : ℕ) where
   plain_test_on o c h u B at ls st ty w n a (Stops s) r = record { j = r.j; c' = r.c'; runs = r.runs; going = r.going; says = r.says; units = r.units; most = omega (arith, r.most); least = r.least }
   plain_test_on o c h u B at ls st ty w n a (Breaks span s) r = tt
 
-  plain_test : (o : Spot) (c : Next) (h : List Object) (u B at : ℕ) (ls st : List Slot) (ty : TypeTree) (w : Bool) (n : ℕ) (goes : Bool) → HasAt set o at (kept goes (JumpIf (truth_test w) (n + 3) ∷ [])) → (r : Completion) → Run set S o (On goes (Typed ty)) c h u 0 B ls at st r → RunTo set S o (On goes Nothing) c h u 1 B ls (aim_of w (at + kept_bytes goes 3 + n) (at + kept_bytes goes 3)) st r
+  plain_test : (o : Activation) (c : Next) (h : List Object) (u B at : ℕ) (ls st : List Slot) (ty : TypeTree) (w : Bool) (n : ℕ) (goes : Bool) → HasAt set o at (kept goes (JumpIf (truth_test w) (n + 3) ∷ [])) → (r : Completion) → Run set S o (On goes (Typed ty)) c h u 0 B ls at st r → RunTo set S o (On goes Nothing) c h u 1 B ls (aim_of w (at + kept_bytes goes 3 + n) (at + kept_bytes goes 3)) st r
   plain_test o c h u B at ls st ty w n true a r run =
       evident set S o Nothing (aim_of w (at + 3 + n) (at + 3)) st c h u 1 B ls true refl r
       (plain_test_on o c h u B at ls st ty w n a.0 r (run_weak set S o (Typed ty) (On true (Typed ty)) (λ v. Some at) st c h u 0 B 0 B ls (omega arith) (omega arith) (λ h' v xs is. is.1) r run))
@@ -143,21 +144,21 @@ module _ (set : Set) (S : ℕ) where
 
   -- the second form behind the node's own unit
   abbrev pub TestInside : ℕ → ℕ → Emitted → (State → Completion) → Type 0
-  TestInside d b x g = (w : Bool) (n : ℕ) (s : State) (o : Spot) (at : ℕ) (ls st : List Slot) (h : List Object) → Prepared set S d x (x.test w n) s o at ls h → RunTo set S o (On x.goes_on Nothing) (live o at ls st h s) h s.units 12 b ls (aim_of w (at + x.test_size w + n) (at + x.test_size w)) st (g s)
+  TestInside d b x g = (w : Bool) (n : ℕ) (s : State) (o : Activation) (at : ℕ) (ls st : List Slot) (h : List Object) → Prepared set S d x (x.test w n) s o at ls h → RunTo set S o (On x.goes_on Nothing) (live o at ls st h s) h s.units 12 b ls (aim_of w (at + x.test_size w + n) (at + x.test_size w)) st (g s)
 
   -- a test's value is checked against the node's type
-  if_typed_test : (o : Spot) (rep : Rep set S) (c : Next) (h : List Object) (u A B : ℕ) (ls : List Slot) (aim : Value → Option ℕ) (st : List Slot) (span : Span) (v : Value) (s : State) (b : Bool) → RunTo set S o rep c h u A B ls aim st (Gives v s) → RunTo set S o rep c h u A B ls aim st (if_typed b span v s)
+  if_typed_test : (o : Activation) (rep : Rep set S) (c : Next) (h : List Object) (u A B : ℕ) (ls : List Slot) (aim : Value → Option ℕ) (st : List Slot) (span : Span) (v : Value) (s : State) (b : Bool) → RunTo set S o rep c h u A B ls aim st (Gives v s) → RunTo set S o rep c h u A B ls aim st (if_typed b span v s)
   if_typed_test o rep c h u A B ls aim st span v s true r = r
   if_typed_test o rep c h u A B ls aim st span v s false r = tt
 
-  checked_test : (o : Spot) (rep : Rep set S) (c : Next) (h : List Object) (u A B : ℕ) (ls : List Slot) (aim : Value → Option ℕ) (st : List Slot) (span : Span) (ty : TypeTree) (r : Completion) → RunTo set S o rep c h u A B ls aim st r → RunTo set S o rep c h u A B ls aim st (then_do r (checked span ty))
+  checked_test : (o : Activation) (rep : Rep set S) (c : Next) (h : List Object) (u A B : ℕ) (ls : List Slot) (aim : Value → Option ℕ) (st : List Slot) (span : Span) (ty : TypeTree) (r : Completion) → RunTo set S o rep c h u A B ls aim st r → RunTo set S o rep c h u A B ls aim st (then_do r (checked span ty))
   checked_test o rep c h u A B ls aim st span ty (Gives v s) r = if_typed_test o rep c h u A B ls aim st span v s (has_type v ty) r
   checked_test o rep c h u A B ls aim st span ty (Throws x s) r = r
   checked_test o rep c h u A B ls aim st span ty (Stops s) r = r
   checked_test o rep c h u A B ls aim st span ty (Breaks at s) r = r
 
   -- a test, and the value made of it
-  valued_on : (o : Spot) (c : Next) (h : List Object) (u b at : ℕ) (ls st : List Slot) → HasAt set o at truth → (r : Completion) → GivesTruth r → RunTo set S o Nothing c h u 12 b ls (aim_of false (at + 4) at) st r → Run set S o Represents c h u factor b ls (at + 5) st r
+  valued_on : (o : Activation) (c : Next) (h : List Object) (u b at : ℕ) (ls st : List Slot) → HasAt set o at truth → (r : Completion) → GivesTruth r → RunTo set S o Nothing c h u 12 b ls (aim_of false (at + 4) at) st r → Run set S o Represents c h u factor b ls (at + 5) st r
   valued_on o c h u b at ls st code (Gives (Int z) s) t r = absurd t
   valued_on o c h u b at ls st code (Gives (Boolean true) s) t r =
       reaches_on set S c h u factor b 12 b 4 0 ls s s (λ h' xs. xs ≡ []) (λ h' xs. Represents h' (Boolean true) xs) (λ ls' h' xs. live o at ls' (xs ++ st) h' s) (λ ls' h' xs. live o (at + 5) ls' (xs ++ st) h' s) r (omega arith) (omega arith)
@@ -175,7 +176,7 @@ module _ (set : Set) (S : ℕ) where
   valued_on o c h u b at ls st code (Stops s) t r = record { j = r.j; c' = r.c'; runs = r.runs; going = r.going; says = r.says; units = r.units; most = omega (arith, r.most); least = r.least }
   valued_on o c h u b at ls st code (Breaks span s) t r = tt
 
-  valued : (o : Spot) (c : Next) (h : List Object) (u b at : ℕ) (ls st : List Slot) (goes : Bool) → HasAt set o at (kept goes truth) → (r : Completion) → GivesTruth r → RunTo set S o (On goes Nothing) c h u 12 b ls (aim_of false (at + 4) at) st r → Run set S o (On goes Represents) c h u factor b ls (at + kept_bytes goes 5) st r
+  valued : (o : Activation) (c : Next) (h : List Object) (u b at : ℕ) (ls st : List Slot) (goes : Bool) → HasAt set o at (kept goes truth) → (r : Completion) → GivesTruth r → RunTo set S o (On goes Nothing) c h u 12 b ls (aim_of false (at + 4) at) st r → Run set S o (On goes Represents) c h u factor b ls (at + kept_bytes goes 5) st r
   valued o c h u b at ls st true code r t run =
       evident set S o Represents (λ v. Some (at + 5)) st c h u factor b ls true refl r
       (valued_on o c h u b at ls st code r t (run_weak set S o Nothing (On true Nothing) (aim_of false (at + 4) at) st c h u 12 b 12 b ls (omega arith) (omega arith) (λ h' v xs is. is.1) r run))
@@ -212,7 +213,7 @@ module _ (set : Set) (S : ℕ) where
           aim = aim_of w (at + test_size w + n) (at + test_size w)
 
   -- NOT
-  turned : (o : Spot) (c : Next) (h : List Object) (u B : ℕ) (ls st : List Slot) (goes w b : Bool) (to end : ℕ) (s : State) → Owed set S o (On goes Nothing) c h u 1 B ls (Some (lands (not w) to end b)) st (Boolean b) s → Owed set S o (On goes Nothing) c h u 12 B ls (Some (lands w to end (not b))) st (Boolean (not b)) s
+  turned : (o : Activation) (c : Next) (h : List Object) (u B : ℕ) (ls st : List Slot) (goes w b : Bool) (to end : ℕ) (s : State) → Owed set S o (On goes Nothing) c h u 1 B ls (Some (lands (not w) to end b)) st (Boolean b) s → Owed set S o (On goes Nothing) c h u 12 B ls (Some (lands w to end (not b))) st (Boolean (not b)) s
   turned o c h u B ls st goes true true to end s r = reaches_weak set S c h u 12 B 1 B ls s (λ h' xs. (goes ≡ true) × (xs ≡ [])) (λ ls' h' xs. live o end ls' (xs ++ st) h' s) (omega arith) (omega arith) r
   turned o c h u B ls st goes true false to end s r = reaches_weak set S c h u 12 B 1 B ls s (λ h' xs. (goes ≡ true) × (xs ≡ [])) (λ ls' h' xs. live o to ls' (xs ++ st) h' s) (omega arith) (omega arith) r
   turned o c h u B ls st goes false true to end s r = reaches_weak set S c h u 12 B 1 B ls s (λ h' xs. (goes ≡ true) × (xs ≡ [])) (λ ls' h' xs. live o to ls' (xs ++ st) h' s) (omega arith) (omega arith) r
@@ -247,7 +248,7 @@ module _ (set : Set) (S : ℕ) where
           last UnitValue s1 r = tt
 
   -- COMPARISONS
-  compare_tail : (span : Span) (w : Bool) (n : ℕ) (test : Bool → Test) (op : ℤ → ℤ → Bool) → ((w : Bool) (p q : ℤ) → holds (test w) p q ≡ same w (op p q)) → (x y : Value) (xs ys : List Slot) (s : State) (o : Spot) (at : ℕ) (ls st : List Slot) (h : List Object) → At set o at (JumpCompare (test w) (n + 3)) → Held h ls s.locals → Represents h x xs → Represents h y ys → RunTo set S o Nothing (live o at ls (ys ++ (xs ++ st)) h s) h s.units 16 0 ls (aim_of w (at + 3 + n) (at + 3)) st (on_int span x (λ p. on_int span y (λ q. Gives (Boolean (op p q)))) s)
+  compare_tail : (span : Span) (w : Bool) (n : ℕ) (test : Bool → Test) (op : ℤ → ℤ → Bool) → ((w : Bool) (p q : ℤ) → holds (test w) p q ≡ same w (op p q)) → (x y : Value) (xs ys : List Slot) (s : State) (o : Activation) (at : ℕ) (ls st : List Slot) (h : List Object) → At set o at (JumpCompare (test w) (n + 3)) → Held h ls s.locals → Represents h x xs → Represents h y ys → RunTo set S o Nothing (live o at ls (ys ++ (xs ++ st)) h s) h s.units 16 0 ls (aim_of w (at + 3 + n) (at + 3)) st (on_int span x (λ p. on_int span y (λ q. Gives (Boolean (op p q)))) s)
   compare_tail span w n test op holds_so (Int p) (Int q) xs ys s o at ls st h code held isx isy =
       own set S 1 (live o at ls (ys ++ (xs ++ st)) h s) h 16 0 ls ls h [] (λ h' zs. zs ≡ []) s (λ ls' h' zs. live o (lands w (at + 3 + n) (at + 3) (op p q)) ls' (zs ++ st) h' s) (omega arith)
       (ap (λ zs. on_from set 1 (live o at ls zs h s)) (ap (λ zs. zs ++ (xs ++ st)) isy ∙ ap (λ zs. slot.Int q ∷ (zs ++ st)) isx)
@@ -456,7 +457,7 @@ module _ (set : Set) (S : ℕ) where
       of_leaf : Acts set S (suc d) y (λ s. enter s.units s (λ s1. then_do (Gives (Boolean b) s1) (checked span ty)))
       of_leaf = plain_acts (suc d) ty (bytes (PushInt (bit b) ∷ [])) 1 true (PushInt (bit b) ∷ []) _ refl (truth_follows d ty span b)
 
-      again : (ops : List Operation) (s : State) (o : Spot) (at : ℕ) (ls : List Slot) (h : List Object) → Prepared set S (suc d) x ops s o at ls h → Prepared set S (suc d) y ops s o at ls h
+      again : (ops : List Operation) (s : State) (o : Activation) (at : ℕ) (ls : List Slot) (h : List Object) → Prepared set S (suc d) x ops s o at ls h → Prepared set S (suc d) y ops s o at ls h
       again ops s o at ls h r = record { deep = r.deep; small = r.small; code = r.code; held = r.held; quiet = r.quiet }
 
       surely : Sure set S (suc d) x (λ s. enter s.units s (λ s1. then_do (Gives (Boolean b) s1) (checked span ty)))

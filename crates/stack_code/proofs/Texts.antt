@@ -17,7 +17,8 @@ use Rattle.class_file.specs.declared.class.Set.{Set}
 use Rattle.class_file.specs.Natives.{Object, TextObject}
 use Rattle.class_file.specs.Machine.{Next, on_from}
 use Rattle.stack_code.specs.Code.{Operation, Call, bytes, Several, further_texts, texts, values, whole, to_text, code_of, kept, kept_bytes}
-use Rattle.stack_code.proofs.Runs.{Grows, grows_none, grows_on, Represents, represents_on, Typed, On, Held, held_on, Spot, live, HasAt, has_front, has_back, written, kept_all, kept_none, both_on, Sized, factor, Rep, Reaches, Run, run_on, run_weak, run_own, bind, evident, own, ends_at, wider, Follows, Inside, with_check, entered}
+use Rattle.stack_code.specs.Implements.{Grows, Held, Activation}
+use Rattle.stack_code.proofs.Runs.{grows_none, grows_on, Represents, represents_on, Typed, On, held_on, live, HasAt, has_front, has_back, written, kept_all, kept_none, both_on, Sized, factor, Rep, Reaches, Run, run_on, run_weak, run_own, bind, evident, own, ends_at, wider, Follows, Inside, with_check, entered}
 use Rattle.stack_code.proofs.Steps.{push_text, call_of_int, call_of_boolean, call_concat, call_write}
 use Rattle.stack_code.proofs.Lists.{bytes_append, get_new, grows_more}
 use Rattle.stack_code.proofs.Several.{AllSized, Readies, first_ready, between_at, more_ready, Does}
@@ -30,10 +31,10 @@ Stacked h (v ∷ vs) below st = (xs : List Slot) × Represents h v xs × Stacked
 module _ (set : Set) (S : ℕ) (d : ℕ) (ev : Core → State → Completion) (sized : (e : Core) → Sized (code_of e)) (ih : (e : Core) → Follows set S d (code_of e) (ev e)) where
   -- what the texts behind the first one do, over the text so far
   abbrev Further : Several → (List ℕ → State → Completion) → Type 0
-  Further x f = (text : List ℕ) (r : ℕ) (s : State) (o : Spot) (at : ℕ) (ls st : List Slot) (h : List Object) → slice_get h r ≡ Some (TextObject text) → Readies set S d ev sized ih x s o at ls h → Run set S o (On x.goes_on Represents) (live o at ls (slot.Ref r ∷ st) h s) h s.units 2 x.nodes ls (at + x.size) st (f text s)
+  Further x f = (text : List ℕ) (r : ℕ) (s : State) (o : Activation) (at : ℕ) (ls st : List Slot) (h : List Object) → slice_get h r ≡ Some (TextObject text) → Readies set S d ev sized ih x s o at ls h → Run set S o (On x.goes_on Represents) (live o at ls (slot.Ref r ∷ st) h s) h s.units 2 x.nodes ls (at + x.size) st (f text s)
 
   -- one step makes a text
-  made : (o : Spot) (rep : Rep set S) (to end : ℕ) (ls st below : List Slot) (h : List Object) (s : State) (B A : ℕ) (c : Next) (text : List ℕ) (r : Completion) → on_from set 1 c ≡ live o to ls (slot.Ref (length h) ∷ st) (h ++ TextObject text ∷ []) s → Held h ls s.locals → ((h1 : List Object) (q : ℕ) → Grows h h1 → Held h1 ls s.locals → slice_get h1 q ≡ Some (TextObject text) → Run set S o rep (live o to ls (slot.Ref q ∷ st) h1 s) h1 s.units A B ls end below r) → Run set S o rep c h s.units (A + 1) B ls end below r
+  made : (o : Activation) (rep : Rep set S) (to end : ℕ) (ls st below : List Slot) (h : List Object) (s : State) (B A : ℕ) (c : Next) (text : List ℕ) (r : Completion) → on_from set 1 c ≡ live o to ls (slot.Ref (length h) ∷ st) (h ++ TextObject text ∷ []) s → Held h ls s.locals → ((h1 : List Object) (q : ℕ) → Grows h h1 → Held h1 ls s.locals → slice_get h1 q ≡ Some (TextObject text) → Run set S o rep (live o to ls (slot.Ref q ∷ st) h1 s) h1 s.units A B ls end below r) → Run set S o rep c h s.units (A + 1) B ls end below r
   made o rep to end ls st below h s B A c text r runs held rest =
       run_own set S 1 o rep end below c (live o to ls (slot.Ref (length h) ∷ st) h1 s) h h1 (A + 1) A B ls ls s (omega arith) runs grown held1 refl r
       (rest h1 (length h) grown held1 (get_new h (TextObject text)))
@@ -48,7 +49,7 @@ module _ (set : Set) (S : ℕ) (d : ℕ) (ev : Core → State → Completion) (s
       held1 = held_on h h1 ls s.locals grown held
 
   -- a value becomes its text
-  turned : (o : Spot) (rep : Rep set S) (at end : ℕ) (ls st below : List Slot) (h : List Object) (s : State) (B : ℕ) (ty : TypeTree) (v : Value) (xs : List Slot) (r : Completion) → HasAt set o at (to_text ty) → Typed ty h v xs → Held h ls s.locals → ((h1 : List Object) (q : ℕ) → Grows h h1 → Held h1 ls s.locals → slice_get h1 q ≡ Some (TextObject (text_of v)) → Run set S o rep (live o (at + bytes (to_text ty)) ls (slot.Ref q ∷ st) h1 s) h1 s.units 3 B ls end below r) → Run set S o rep (live o at ls (xs ++ st) h s) h s.units 4 B ls end below r
+  turned : (o : Activation) (rep : Rep set S) (at end : ℕ) (ls st below : List Slot) (h : List Object) (s : State) (B : ℕ) (ty : TypeTree) (v : Value) (xs : List Slot) (r : Completion) → HasAt set o at (to_text ty) → Typed ty h v xs → Held h ls s.locals → ((h1 : List Object) (q : ℕ) → Grows h h1 → Held h1 ls s.locals → slice_get h1 q ≡ Some (TextObject (text_of v)) → Run set S o rep (live o (at + bytes (to_text ty)) ls (slot.Ref q ∷ st) h1 s) h1 s.units 3 B ls end below r) → Run set S o rep (live o at ls (xs ++ st) h s) h s.units 4 B ls end below r
   turned o rep at end ls st below h s B type_is.Int (Int z) xs r code is held rest =
       made o rep (at + 3) end ls st below h s B 3 (live o at ls (xs ++ st) h s) (signed_decimal z) r
       (ap (λ ys. on_from set 1 (live o at ls (ys ++ st) h s)) is.1 ∙ call_of_int set o at ls st h s z code.0) held rest
@@ -76,7 +77,7 @@ module _ (set : Set) (S : ℕ) (d : ℕ) (ev : Core → State → Completion) (s
   turned o rep at end ls st below h s B type_is.Unit (Text t) xs r code is held rest = absurd (let q = is.0 in cc)
 
   -- a value becomes its text and comes behind the text below it
-  appended : (o : Spot) (rep : Rep set S) (at end : ℕ) (ls st : List Slot) (h : List Object) (s : State) (B : ℕ) (ty : TypeTree) (v : Value) (xs : List Slot) (q : ℕ) (text : List ℕ) (r : Completion) → HasAt set o at (to_text ty ++ Call helper.TextsConcat ∷ []) → Typed ty h v xs → Held h ls s.locals → slice_get h q ≡ Some (TextObject text) → ((h1 : List Object) (p : ℕ) → Held h1 ls s.locals → slice_get h1 p ≡ Some (TextObject (text ++ text_of v)) → Run set S o rep (live o (at + bytes (to_text ty ++ Call helper.TextsConcat ∷ [])) ls (slot.Ref p ∷ st) h1 s) h1 s.units 2 B ls end st r) → Run set S o rep (live o at ls (xs ++ (slot.Ref q ∷ st)) h s) h s.units 4 B ls end st r
+  appended : (o : Activation) (rep : Rep set S) (at end : ℕ) (ls st : List Slot) (h : List Object) (s : State) (B : ℕ) (ty : TypeTree) (v : Value) (xs : List Slot) (q : ℕ) (text : List ℕ) (r : Completion) → HasAt set o at (to_text ty ++ Call helper.TextsConcat ∷ []) → Typed ty h v xs → Held h ls s.locals → slice_get h q ≡ Some (TextObject text) → ((h1 : List Object) (p : ℕ) → Held h1 ls s.locals → slice_get h1 p ≡ Some (TextObject (text ++ text_of v)) → Run set S o rep (live o (at + bytes (to_text ty ++ Call helper.TextsConcat ∷ [])) ls (slot.Ref p ∷ st) h1 s) h1 s.units 2 B ls end st r) → Run set S o rep (live o at ls (xs ++ (slot.Ref q ∷ st)) h s) h s.units 4 B ls end st r
   appended o rep at end ls st h s B ty v xs q text r code is held there rest =
       turned o rep at end ls (slot.Ref q ∷ st) st h s B ty v xs r (has_front set o at (to_text ty) (Call helper.TextsConcat ∷ []) code) is held
       (λ h1 p grown held1 found.
@@ -162,10 +163,10 @@ module _ (set : Set) (S : ℕ) (d : ℕ) (ev : Core → State → Completion) (s
           x = texts (map code_of (e ∷ es))
 
   -- what comes after the values of operands, which stand on the stack, over a stack
-  abbrev After : Several → (rep : Rep set S) → Spot → (at end : ℕ) → (st st0 : List Slot) → List Object → (List Value → State → Completion) → Type 0
+  abbrev After : Several → (rep : Rep set S) → Activation → (at end : ℕ) → (st st0 : List Slot) → List Object → (List Value → State → Completion) → Type 0
   After x rep o at end st st0 h go = x.goes_on ≡ true → (vs : List Value) (s : State) (ls1 st1 : List Slot) (h1 : List Object) → Grows h h1 → Stacked h1 vs st st1 → Held h1 ls1 s.locals → Run set S o rep (live o (at + x.size) ls1 st1 h1 s) h1 s.units factor 0 ls1 end st0 (go vs s)
 
-  values_follow : (rep : Rep set S) (es : List Core) (go : List Value → State → Completion) (s : State) (o : Spot) (at end : ℕ) (ls st st0 : List Slot) (h : List Object) → Readies set S d ev sized ih (values (map code_of es)) s o at ls h → After (values (map code_of es)) rep o at end st st0 h go → Run set S o rep (live o at ls st h s) h s.units factor (values (map code_of es)).nodes ls end st0 (operands ev es go s)
+  values_follow : (rep : Rep set S) (es : List Core) (go : List Value → State → Completion) (s : State) (o : Activation) (at end : ℕ) (ls st st0 : List Slot) (h : List Object) → Readies set S d ev sized ih (values (map code_of es)) s o at ls h → After (values (map code_of es)) rep o at end st st0 h go → Run set S o rep (live o at ls st h s) h s.units factor (values (map code_of es)).nodes ls end st0 (operands ev es go s)
   values_follow rep [] go s o at end ls st st0 h ready then' =
       subst (λ n. Run set S o rep (live o n ls st h s) h s.units factor 0 ls end st0 (go [] s)) (let e : at + 0 ≡ at = omega arith in e) (then' refl [] s ls st h (grows_none h) refl ready.held)
   values_follow rep (e ∷ es) go s o at end ls st st0 h ready then' =
@@ -189,7 +190,7 @@ module _ (set : Set) (S : ℕ) (d : ℕ) (ev : Core → State → Completion) (s
           subst (λ n. Run set S o rep (live o n ls2 st2 h2 s2) h2 s2.units factor 0 ls2 end st0 (go (v ∷ vs) s2)) (let i : at + ((code_of e).size + kept_bytes (code_of e).goes_on (0 + more.size)) ≡ next + more.size = omega (arith, f) in i)
           (then' (both_on (code_of e).goes_on more.goes_on g.is.0 on) (v ∷ vs) s2 ls2 st2 h2 (grows_on h g.h' h2 g.grows grown) (g.xs, represents_on g.h' h2 v g.xs grown g.is.1.1, stacked) held2))))
 
-  write_tail : (span : Span) (vs : List Value) (s : State) (o : Spot) (at : ℕ) (ls st st1 : List Slot) (h : List Object) → HasAt set o at (Call helper.ConsoleWrite ∷ []) → Stacked h vs st st1 → Held h ls s.locals → Run set S o Represents (live o at ls st1 h s) h s.units factor 0 ls (at + 3) st (native span native_kind.ConsoleWrite vs s)
+  write_tail : (span : Span) (vs : List Value) (s : State) (o : Activation) (at : ℕ) (ls st st1 : List Slot) (h : List Object) → HasAt set o at (Call helper.ConsoleWrite ∷ []) → Stacked h vs st st1 → Held h ls s.locals → Run set S o Represents (live o at ls st1 h s) h s.units factor 0 ls (at + 3) st (native span native_kind.ConsoleWrite vs s)
   write_tail span (Text t ∷ []) s o at ls st st1 h code stacked held =
       own set S 1 (live o at ls st1 h s) h factor 0 ls ls h [] (λ h' ys. Represents h' UnitValue ys) s' (λ ls' h' ys. live o (at + 3) ls' (ys ++ st) h' s') (omega arith)
       (ap (λ ys. on_from set 1 (live o at ls ys h s)) (stacked.2 ∙ ap (λ zs. zs ++ st) stacked.1.1) ∙ call_write set o at ls st h s stacked.1.0 t code.0 stacked.1.2)

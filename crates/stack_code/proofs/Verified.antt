@@ -141,7 +141,7 @@ module _ (locals : List Local) (named : ℕ → Bool) (max_locals : ℕ) where
 
 -- ---- rows and operations
 
-row_jumps : (pool : Slots) (at : ℕ) (i : Instr) (o : Operation) → StandsFor pool at i o → verification.jump_of (row_of at i) ≡ jump_of at o
+pub row_jumps : (pool : Slots) (at : ℕ) (i : Instr) (o : Operation) → StandsFor pool at i o → verification.jump_of (row_of at i) ≡ jump_of at o
 row_jumps pool at i (PushInt z) h = ⊎_elim (λ e. ap verification.jump_of e) (λ p. ap verification.jump_of p.1) h
 row_jumps pool at i (PushText t) h = ap verification.jump_of h.1
 row_jumps pool at i (Load k x) h = ap verification.jump_of h
@@ -155,7 +155,7 @@ row_jumps pool at i (JumpIf t n) h = ap verification.jump_of h
 row_jumps pool at i (JumpCompare t n) h = ap verification.jump_of h
 row_jumps pool at i Leave h = ap verification.jump_of h
 
-row_goes : (pool : Slots) (at : ℕ) (i : Instr) (o : Operation) → StandsFor pool at i o → verification.goes_on (row_of at i) ≡ goes_on o
+pub row_goes : (pool : Slots) (at : ℕ) (i : Instr) (o : Operation) → StandsFor pool at i o → verification.goes_on (row_of at i) ≡ goes_on o
 row_goes pool at i (PushInt z) h = ⊎_elim (λ e. ap verification.goes_on e) (λ p. ap verification.goes_on p.1) h
 row_goes pool at i (PushText t) h = ap verification.goes_on h.1
 row_goes pool at i (Load k x) h = ap verification.goes_on h

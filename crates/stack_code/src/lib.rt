@@ -4,7 +4,10 @@
 pub mod constants;
 pub mod depth;
 pub mod emit;
+pub mod entries;
+pub mod frames;
 pub mod instructions;
 pub mod measures;
 pub mod method;
 pub mod operations;
+pub mod walk;

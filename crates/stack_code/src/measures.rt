@@ -80,7 +80,8 @@ fn testing(when_true: u32, when_false: u32, goes_on: bool) -> Result<Measure, Fa
     })
 }
 
-fn int_size(n: i32) -> u32
+/// The length of what pushes a number.
+pub fn int_size(n: i32) -> u32
     ensures { result ≡ int_bytes n }
 {
     if -1 <= n && n <= 5 {
@@ -92,8 +93,8 @@ fn int_size(n: i32) -> u32
     }
 }
 
-// The length of a load, and of a store, of a local of this type.
-fn local_size(ty: TypeTree, local: usize) -> u32
+/// The length of a load, and of a store, of a local of this type.
+pub fn local_size(ty: TypeTree, local: usize) -> u32
     ensures loads { result ≡ bytes (loads ty local) }
     ensures stores { result ≡ bytes (stores ty local) }
 {

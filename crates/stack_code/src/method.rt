@@ -1,19 +1,23 @@
 //! The method of a function.
 
 ghost use Rattle.std.specs.Prelude.{◌≡◌, ◌<◌, ◌≤◌, ◌^◌, length, IfOk, OnOk, codes};
-ghost use Rattle.class_file.specs.Pools.{Extends};
-ghost use Rattle.stack_code.specs.Code.{body_code, bytes};
+ghost use Rattle.class_file.specs.Pools.{Extends, Slots};
+ghost use Rattle.stack_code.specs.Code.{body_code, bytes, Spells};
 ghost use Rattle.stack_code.specs.Emission.{Emits};
 ghost use Rattle.stack_code.specs.Room.{CodeIsWithinRoom};
 ghost use Rattle.stack_code.specs.Agrees.{IsCodeOf, CompiledAgrees, CompiledHasCode, CompiledIsFirstLot, FilesHaveOwnNames};
-ghost use Rattle.stack_code.specs.Frames.{stack_of, CompiledVerifies};
+ghost use Rattle.stack_code.specs.Implements.{CodeImplements};
+ghost use Rattle.stack_code.specs.Frames.{CompiledVerifies, frames_of, stack_of};
 
 use crate::constants::{TooLarge, ascii};
 use crate::depth::depth_of;
 use crate::emit::emit;
+use crate::entries::{blank, entries_of};
+use crate::frames::{Walk, pass};
 use crate::measures::{discard_size, kept, measure_of, plus};
 use crate::operations::{discard, leave};
-use class_file::class::Method;
+use crate::walk::walk_discarded;
+use class_file::class::{Frame, Method};
 use class_file::instr::Instr;
 use class_file::pool::Pool;
 use kc_core::tree::{Core, Function};
@@ -55,11 +59,36 @@ fn code_length(body: &Core) -> Result<u32, Fail<TooLarge>>
     )
 }
 
+// The frames of a function's method, whose code has so many bytes.
+fn frames_of(
+    alloc: Global,
+    function: &Function,
+    code: &[Instr],
+    count: u32,
+) -> Result<Vec<Frame>, Fail<TooLarge>>
+    requires short { length code.now < 2 ^ 28 }
+    requires bytes { count ≡ bytes (body_code function.now.body) }
+    ensures { IfOk result (λ frames. (pool : Slots) → Spells pool 0 code.now (body_code function.now.body) → frames.items ≡ frames_of function.now) }
+{
+    let locals = function.locals.as_slice();
+    let entries = entries_of(alloc, code, count as usize)?;
+    let mut walk = Walk {
+        at: 0,
+        assigned: blank(alloc, locals.len())?,
+        stack: Vec::new(alloc),
+        frames: Vec::new(alloc),
+    };
+    let goes = walk_discarded(alloc, locals, &entries, &mut walk, true, &function.body)?;
+    pass(alloc, locals, &entries, &mut walk, goes, 1)?;
+    Ok(walk.frames)
+}
+
 /// The public static method of a function without parameters whose result is `Unit`.
 ///
 /// The pool gets the entries that the code names. It is `TooLarge` only where the code has more than 65,535 bytes, the function
-/// more than 65,535 locals or operands at once, the pool no room, or a jump more than 32,767 bytes to pass (JVM Specification
-/// SE 8, 4.7.3 and 4.11).
+/// more than 65,535 locals or operands at once or names a local that it does not have, the pool no room, or a jump more than 32,767
+/// bytes to pass (JVM Specification SE 8, 4.7.3 and 4.11). Its frames (4.7.4) take time linear in the code and in their own size,
+/// and in the number of locals for each test.
 #[tactic(auto, using(crate::proofs::Emitting::emits_all, crate::proofs::Lengths::no_longer))]
 pub fn emit_function(
     alloc: Global,
@@ -73,6 +102,7 @@ pub fn emit_function(
     ensures fits { IfOk result (λ m. bytes (body_code function.now.body) ≤ 65535) }
     ensures short { IfOk result (λ m. length m.code ≤ 65535) }
     ensures deep { IfOk result (λ m. stack_of function.now ≤ m.max_stack) }
+    ensures frames { IfOk result (λ m. m.frames ≡ frames_of function.now) }
 {
     let mut code = Vec::new(alloc);
     let length = code_length(&function.body)?;
@@ -82,6 +112,7 @@ pub fn emit_function(
     if length as usize > MOST || locals > MOST || deepest > MOST {
         return Err(Fail::Found(TooLarge));
     }
+    let frames = frames_of(alloc, function, &code, length)?;
     Ok(Method {
         flags: PUBLIC_STATIC,
         name: function.name.copy(alloc)?,
@@ -90,11 +121,16 @@ pub fn emit_function(
         max_locals: locals as u16,
         code: Items::from_vec(code),
         handlers: Items::new(alloc),
-        frames: Items::new(alloc),
+        frames: Items::from_vec(frames),
         code_others: Items::new(alloc),
         others: Items::new(alloc),
     })
 }
+
+/// A method that is the code of a function does what the function's body means, in any activation of it above frames without handlers.
+pub fn code_implements()
+    ensures { CodeImplements }
+{}
 
 /// Compiled code agrees with its program.
 pub fn compiled_agrees()
