@@ -138,7 +138,7 @@ module _ (h : Heads) where
   stays (v ∷ vs) (more x xs) a = ap (λ us. more x us) (puts_shift (at (more x xs)) (own_args vs) ∙ stays vs xs a.1)
 
   module _ (valid : Valid h) where
-    super_kinded : {c e : ℕ} {ws : Args} → Supertype h c e ws → All_kinded h (h.vars e) ws
+    pub super_kinded : {c e : ℕ} {ws : Args} → Supertype h c e ws → All_kinded h (h.vars e) ws
     super_kinded {c = c} own = own_kinded (h.vars c)
     super_kinded (next {d = d} {zs = zs} {s = x} st i) = puts_kinded (at zs) (λ k. at_kinded (h.vars d) zs k (super_kinded st)) (h.vars x.class) x.args (valid.kinded d x i)
 

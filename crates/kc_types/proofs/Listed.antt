@@ -5,16 +5,16 @@ use Rattle.kc_types.specs.Supertypes.{IsIn, here, later, Supertype, put, put_in,
 use Rattle.kc_types.specs.Supertypes.Supertype.{own, next}
 use Rattle.kc_types.proofs.Supertypes.{in_append, in_map}
 
-in_left : {A : Type 0} (x : A) (us vs : List A) → IsIn A x us → IsIn A x (us ++ vs)
+pub in_left : {A : Type 0} (x : A) (us vs : List A) → IsIn A x us → IsIn A x (us ++ vs)
 in_left x [] vs i = elim i [ ]
 in_left x (u ∷ us) vs here = here
 in_left x (u ∷ us) vs (later i) = later (in_left x us vs i)
 
-in_right : {A : Type 0} (x : A) (us vs : List A) → IsIn A x vs → IsIn A x (us ++ vs)
+pub in_right : {A : Type 0} (x : A) (us vs : List A) → IsIn A x vs → IsIn A x (us ++ vs)
 in_right x [] vs i = i
 in_right x (u ∷ us) vs i = later (in_right x us vs i)
 
-map_in : {A B : Type 0} (f : A → B) (x : A) (xs : List A) → IsIn A x xs → IsIn B (f x) (map f xs)
+pub map_in : {A B : Type 0} (f : A → B) (x : A) (xs : List A) → IsIn A x xs → IsIn B (f x) (map f xs)
 map_in f x [] i = elim i [ ]
 map_in f x (y ∷ xs) here = here
 map_in f x (y ∷ xs) (later i) = later (map_in f x xs i)

@@ -4,6 +4,7 @@ use Rattle.kc_types.specs.Types.{Ty, Class, Param, Nothing, Nullable, Arg, Exact
 use Rattle.kc_types.specs.Supertypes.{instance}
 use Rattle.kc_types.specs.Subtype.{below}
 use Rattle.kc_types.specs.View.{view}
+use Rattle.kc_types.specs.CommonClasses.{common_class}
 
 abbrev pub nth : {A : Type 0} → A → List A → ℕ → A
 nth d [] k = d
@@ -27,27 +28,78 @@ any_bound x v = record { var = x; variance = v; bound = Nullable (plain 0) }
 
 -- Any 0, Num 1 : Any, L<out S> 2, D<T : Num> : L<T> 3, Sink<in X> 4, Function1<in P, out R> 5,
 -- Iterable<out A> 6, Collection<out B> : Iterable<B> 7, MutableList<E> : Collection<E> 8, ArrayList<F> : MutableList<F> 9
+abbrev pub heads_params : List (List HeadParam)
+heads_params = [] ∷ [] ∷ (any_bound 20 Covariant ∷ []) ∷ (record { var = 30; variance = Invariant; bound = plain 1 } ∷ []) ∷ (any_bound 40 Contravariant ∷ []) ∷
+    (any_bound 50 Contravariant ∷ any_bound 51 Covariant ∷ []) ∷ (any_bound 60 Covariant ∷ []) ∷ (any_bound 70 Covariant ∷ []) ∷ (any_bound 80 Invariant ∷ []) ∷ (any_bound 90 Invariant ∷ []) ∷ []
+
+abbrev pub heads_supers : List (List Ty)
+heads_supers = [] ∷ (plain 0 ∷ []) ∷ [] ∷ (one 2 (var 30) ∷ []) ∷ [] ∷ [] ∷ [] ∷ (one 6 (var 70) ∷ []) ∷ (one 7 (var 80) ∷ []) ∷ (one 8 (var 90) ∷ []) ∷ []
+
 abbrev pub heads : Heads
 heads = record {
   classes = 10;
-  params = nth [] ([] ∷ [] ∷ (any_bound 20 Covariant ∷ []) ∷ (record { var = 30; variance = Invariant; bound = plain 1 } ∷ []) ∷ (any_bound 40 Contravariant ∷ []) ∷
-      (any_bound 50 Contravariant ∷ any_bound 51 Covariant ∷ []) ∷ (any_bound 60 Covariant ∷ []) ∷ (any_bound 70 Covariant ∷ []) ∷ (any_bound 80 Invariant ∷ []) ∷ (any_bound 90 Invariant ∷ []) ∷ []);
-  supers = nth [] ([] ∷ (plain 0 ∷ []) ∷ [] ∷ (one 2 (var 30) ∷ []) ∷ [] ∷ [] ∷ [] ∷ (one 6 (var 70) ∷ []) ∷ (one 7 (var 80) ∷ []) ∷ (one 8 (var 90) ∷ []) ∷ []);
+  params = nth [] heads_params;
+  supers = nth [] heads_supers;
   vars = 10;
   bound_of = λ x. cond (nat_eq x 30) (plain 1) (Nullable (plain 0));
   any = 0;
   is_function = λ c. nat_eq c 5;
 }
 
+-- Any 0, Comparable<in T> 1, Int : Comparable<Int> 2, String : Comparable<String> 3, Tag 4, A : Comparable<A>, Tag 5, and B likewise 6
+abbrev pub compared : ℕ → Ty
+compared c = one 1 (Exact (plain c))
+
+abbrev pub comparables : Heads
+comparables = record {
+  classes = 7;
+  params = nth [] ([] ∷ (any_bound 10 Contravariant ∷ []) ∷ []);
+  supers = nth [] ([] ∷ (plain 0 ∷ []) ∷ (compared 2 ∷ []) ∷ (compared 3 ∷ []) ∷ (plain 0 ∷ []) ∷ (compared 5 ∷ plain 4 ∷ []) ∷ (compared 6 ∷ plain 4 ∷ []) ∷ []);
+  vars = 1;
+  bound_of = λ x. Nullable (plain 0);
+  any = 0;
+  is_function = λ c. false;
+}
+
+-- Any 0, Num 1 : Any, L<X, Y> 2, D<X : Num, Y> : L<X, Y> 3, C<T : Num> : D<T, T> 4, E<T : Num> : L<T?, T> 5, Sink<in X> 6, Box<T> 7,
+-- K<out T> : Sink<Box<out Sink<T>>> 8
+abbrev pub num_bound : ℕ → HeadParam
+num_bound x = record { var = x; variance = Invariant; bound = plain 1 }
+
+abbrev pub in_steps : Heads
+in_steps = record {
+  classes = 9;
+  params = nth [] ([] ∷ [] ∷ (any_bound 20 Invariant ∷ any_bound 21 Invariant ∷ []) ∷ (num_bound 30 ∷ any_bound 31 Invariant ∷ []) ∷ (num_bound 40 ∷ []) ∷ (num_bound 50 ∷ []) ∷
+      (any_bound 60 Contravariant ∷ []) ∷ (any_bound 70 Invariant ∷ []) ∷ (any_bound 80 Covariant ∷ []) ∷ []);
+  supers = nth [] ([] ∷ (plain 0 ∷ []) ∷ [] ∷ (two 2 (var 30) (var 31) ∷ []) ∷ (two 3 (var 40) (var 40) ∷ []) ∷ (two 2 (Exact (Nullable (Param 50))) (var 50) ∷ []) ∷ [] ∷ [] ∷
+      (one 6 (Exact (one 7 (Out (one 6 (var 80))))) ∷ []) ∷ []);
+  vars = 9;
+  bound_of = λ x. Nullable (plain 0);
+  any = 0;
+  is_function = λ c. false;
+}
+
 pub record ExamplesHold : Type 0 where
+  -- Int and String have Comparable above both; where two such classes stand side by side it is Any
+  pub common : common_class comparables 2 3 ≡ 1
+  pub common_above : common_class heads 9 7 ≡ 7
+  pub common_beside : common_class comparables 5 6 ≡ 0
   -- ArrayList<Num> is below Iterable<Num> and Iterable<Any>
   pub walks : below 8 heads (one 9 (Exact (plain 1))) (one 6 (Exact (plain 0))) ≡ true
   pub at_iterable : instance heads 9 6 ≡ Some (one 6 (var 90))
+  pub of_num : up heads (class_given heads 9 (more (Exact (plain 1)) none)) (one 6 (var 90)) ≡ one 6 (Exact (plain 1))
   -- a star keeps its parameter's bound at a superclass, and so does an `in` projection
   pub star_keeps_bound : below 8 heads (one 3 Star) (one 2 (Exact (plain 1))) ≡ true
   pub in_keeps_bound : below 8 heads (one 3 (In Nothing)) (one 2 (Exact (plain 1))) ≡ true
   -- an argument beyond its bound gives way to `out` of the bound
   pub beyond_bound : below 8 heads (one 3 (Exact (plain 0))) (one 3 (Out (plain 1))) ≡ true
+  -- C<in Nothing> is a D<in Nothing, in Nothing>, whose bound makes the first argument `out Num`: at L, whose parameters have no bounds,
+  -- one argument of C can't be both
+  pub on_the_way : below 8 in_steps (one 4 (In Nothing)) (two 2 (Out (plain 1)) (In Nothing)) ≡ true
+  -- E<Any> is beyond E's bound; as an E<in Any> it is an L<out Num?, in Any>
+  pub beyond_twice : below 8 in_steps (one 5 (Exact (plain 0))) (two 2 (Out (Nullable (plain 1))) (In (plain 1))) ≡ true
+  -- a projection that says what declared variance says is no projection: K<out Num> is at Sink what K<Num> is
+  pub declared_out : up in_steps (class_given in_steps 8 (more (Out (plain 1)) none)) (one 6 (Exact (one 7 (Out (one 6 (var 80)))))) ≡ one 6 (Exact (one 7 (Out (one 6 (Exact (plain 1))))))
   pub keeps_invariance : below 8 heads (one 3 (Exact (plain 1))) (one 3 (Exact (plain 0))) ≡ false
   pub takes_wider : below 8 heads (one 4 (Exact (plain 0))) (one 4 (Exact (plain 1))) ≡ true
   pub takes_narrower : below 8 heads (one 4 (Exact (plain 1))) (one 4 (Exact (plain 0))) ≡ false
@@ -56,6 +108,7 @@ pub record ExamplesHold : Type 0 where
   pub null_is_no_any : below 8 heads (Nullable (plain 1)) (plain 0) ≡ false
   pub null_is_any_or_null : below 8 heads (Nullable (plain 1)) (Nullable (plain 0)) ≡ true
   pub two_marks : below 8 heads (Nullable (Nullable (plain 1))) (Nullable (plain 1)) ≡ true
+  pub one_mark : below 8 heads (Nullable (plain 1)) (Nullable (Nullable (plain 1))) ≡ true
   -- a projection against its parameter's variance is a star, also where a type is taken upwards: with `in Nothing?` in its place
   -- null would reach a Sink<Num>
   pub against : up heads (class_given heads 3 (more Star none)) (one 4 (Out (Nullable (Param 30)))) ≡ one 4 Star

@@ -11,3 +11,11 @@ pub mod Tables
 pub mod Examples
 pub mod Core
 pub mod CoreExample
+pub mod Formed
+pub mod FormedSub
+pub mod Decided
+pub mod Ranks
+pub mod Whole
+pub mod Positions
+pub mod CommonClasses
+pub mod Endless

@@ -1,8 +1,8 @@
 -- Subtyping (Kotlin Language Specification 1.9, "Subtyping"): the least relation with its ten rules, and a recursion that has no
 -- rule of transitivity.
-use Rattle.std.specs.Prelude.{ℕ, zero, suc, Bool, true, false, nat_eq, List, [], ◌∷◌, Option, Some, None, ◌&&◌, ◌||◌, length, map, ◌++◌}
+use Rattle.std.specs.Prelude.{ℕ, zero, suc, Bool, true, false, nat_eq, List, [], ◌∷◌, ◌&&◌, ◌||◌, length, map, ◌++◌}
 use Rattle.kc_types.specs.Types.{Ty, Class, Param, Nothing, Nullable, Arg, Exact, Out, In, Star, Args, none, more, Variance, Invariant, Covariant, Contravariant, HeadParam, Heads, Given, up, star_bound, class_given}
-use Rattle.kc_types.specs.Supertypes.{Supertype, instance}
+use Rattle.kc_types.specs.Supertypes.{Supertype, above, is_class}
 
 -- `Any?`
 abbrev pub anything : Heads → Ty
@@ -76,12 +76,16 @@ all_with go all [] none (more b ys) = false
 all_with go all (p ∷ ps) none ys = false
 all_with go all (p ∷ ps) (more a xs) none = false
 
--- before its instance is taken, an argument may give way to `out` of its parameter's bound, which a star stands for: the instance
--- would else lose that bound
+-- before a supertype is taken, an argument may give way to one that contains it: any to `out` of its parameter's bound, which a star
+-- stands for, and a type to `in` of itself, which leaves that bound in place of the type where the type is beyond it. The supertypes
+-- would else lose the bound.
 abbrev pub options : Variance → Ty → Arg → List Arg
 options Contravariant top a = a ∷ []
-options Invariant top a = a ∷ Out top ∷ []
 options Covariant top a = a ∷ Out top ∷ []
+options Invariant top (Exact t) = Exact t ∷ In t ∷ Out top ∷ []
+options Invariant top (Out t) = Out t ∷ Out top ∷ []
+options Invariant top (In t) = In t ∷ Out top ∷ []
+options Invariant top Star = Star ∷ Out top ∷ []
 
 abbrev pub each_first : List Arg → List Args → List Args
 each_first [] xss = []
@@ -93,13 +97,26 @@ choices all [] (more a xs) = []
 choices all (p ∷ ps) none = []
 choices all (p ∷ ps) (more a xs) = each_first (options p.variance (star_bound (length all) all p.bound) a) (choices all ps xs)
 
-abbrev pub fits_with : (Ty → Ty → Bool) → Heads → List Given → ℕ → Args → Option Ty → Bool
-fits_with go h gs d ys None = false
-fits_with go h gs d ys (Some t) = elim (up h gs t) [ Class e zs ↦ all_with go (h.params d) (h.params d) zs ys | Param x ↦ false | Nothing ↦ false | Nullable u ↦ false ]
+-- a function type's arguments stay types
+abbrev pub choices_by : Bool → List HeadParam → Args → List Args
+choices_by true ps xs = xs ∷ []
+choices_by false ps xs = choices ps ps xs
 
-abbrev pub any_fits : (Ty → Ty → Bool) → Heads → ℕ → List Args → ℕ → Args → Option Ty → Bool
-any_fits go h c [] d ys o = false
-any_fits go h c (xs ∷ xss) d ys o = fits_with go h (class_given h c xs) d ys o || any_fits go h c xss d ys o
+abbrev pub class_choices : Heads → ℕ → Args → List Args
+class_choices h c xs = choices_by (h.is_function c) (h.params c) xs
+
+-- on from one of these supertypes, if it is of another class
+abbrev pub above_with : (Ty → Ty → Bool) → Heads → List Given → ℕ → Ty → List Ty → Bool
+above_with go h gs c b [] = false
+above_with go h gs c b (t ∷ ts) = elim (is_class c t) [ true ↦ false | false ↦ go (up h gs t) b ] || above_with go h gs c b ts
+
+-- by its own arguments where the class is the same, or on from a supertype: each class on the way has bounds of its own
+abbrev pub fits_with : (Ty → Ty → Bool) → Heads → ℕ → Args → ℕ → Args → Bool
+fits_with go h c xs d ys = elim (nat_eq c d) [ true ↦ all_with go (h.params c) (h.params c) xs ys | false ↦ false ] || above_with go h (class_given h c xs) c (Class d ys) (above h c)
+
+abbrev pub any_fits : (Ty → Ty → Bool) → Heads → ℕ → List Args → ℕ → Args → Bool
+any_fits go h c [] d ys = false
+any_fits go h c (xs ∷ xss) d ys = fits_with go h c xs d ys || any_fits go h c xss d ys
 
 abbrev pub is_empty : Args → Bool
 is_empty none = true
@@ -107,7 +124,7 @@ is_empty (more a xs) = false
 
 -- a class type that isn't null below this one
 abbrev pub class_with : (Ty → Ty → Bool) → Heads → ℕ → Args → Ty → Bool
-class_with go h c xs (Class d ys) = (nat_eq d h.any && is_empty ys) || any_fits go h c (choices (h.params c) (h.params c) xs) d ys (instance h c d)
+class_with go h c xs (Class d ys) = (nat_eq d h.any && is_empty ys) || any_fits go h c (class_choices h c xs) d ys
 class_with go h c xs (Param x) = false
 class_with go h c xs Nothing = false
 class_with go h c xs (Nullable b) = go (Class c xs) b
@@ -145,3 +162,8 @@ layer go h (Class c xs) b = class_with go h c xs b
 abbrev pub below : ℕ → Heads → Ty → Ty → Bool
 below zero h a b = false
 below (suc n) h a b = let rest = layer (below n h) h a b in is_anything h b || rest
+
+-- the same recursion, which says yes where its height is spent: what it refuses at some height is below at none
+abbrev pub perhaps : ℕ → Heads → Ty → Ty → Bool
+perhaps zero h a b = true
+perhaps (suc n) h a b = let rest = layer (perhaps n h) h a b in is_anything h b || rest

@@ -229,5 +229,23 @@ given_all all [] xs = []
 given_all all (p ∷ ps) none = []
 given_all all (p ∷ ps) (more a xs) = record { var = p.var; arg = a; top = star_bound (length all) all p.bound } ∷ given_all all ps xs
 
+-- an argument as its parameter's variance has it: a projection that says what the variance says is the type itself, and one against
+-- it a star
+abbrev pub reduced : Variance → Arg → Arg
+reduced Invariant a = a
+reduced Covariant (Exact t) = Exact t
+reduced Covariant (Out t) = Exact t
+reduced Covariant (In t) = Star
+reduced Covariant Star = Star
+reduced Contravariant (Exact t) = Exact t
+reduced Contravariant (Out t) = Star
+reduced Contravariant (In t) = Exact t
+reduced Contravariant Star = Star
+
+abbrev pub reduced_args : List HeadParam → Args → Args
+reduced_args [] xs = xs
+reduced_args (p ∷ ps) none = none
+reduced_args (p ∷ ps) (more a xs) = more (reduced p.variance a) (reduced_args ps xs)
+
 abbrev pub class_given : Heads → ℕ → Args → List Given
-class_given h c xs = given_all (h.params c) (h.params c) xs
+class_given h c xs = given_all (h.params c) (h.params c) (reduced_args (h.params c) xs)

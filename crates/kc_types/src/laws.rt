@@ -1,7 +1,9 @@
 //! What is proved of subtyping.
 
 ghost use Rattle.kc_types.specs.Examples.{ExamplesHold};
-ghost use Rattle.kc_types.specs.Laws.{BelowIsSound, SupertypesAreListed, CoreAgrees, CoreIsTransitive, CoreIsReflexive, CoreHasHeads, CoreHasInstances, CoreKeepsPutting};
+ghost use Rattle.kc_types.specs.Endless.{Endless};
+ghost use Rattle.kc_types.specs.Decided.{DecidedIsExact, DecidedIsTransitive};
+ghost use Rattle.kc_types.specs.Laws.{BelowIsSound, SupertypesAreListed, HasInstances, BelowGrows, BelowIsReflexive, BelowHasInstances, ChoicesCompose, UpwardsIsAbove, DownwardsIsBelow, HasValidHeads, SubIsPerhaps, BelowIsFormed, FormedIsSub, BelowComposes, ViewIsSound, CoreIsPart, CoreHasWhole, CoreAgrees, CoreIsTransitive, CoreIsReflexive, CoreHasHeads, CoreHasInstances, CoreKeepsPutting};
 
 /// What the recursion without a rule of transitivity accepts is a subtype.
 pub fn below_is_sound()
@@ -13,9 +15,91 @@ pub fn supertypes_are_listed()
     ensures { SupertypesAreListed }
 {}
 
+/// A class type is below its instance at a superclass.
+pub fn has_instances()
+    ensures { HasInstances }
+{}
+
+/// What the recursion accepts at one height it accepts at each greater one.
+pub fn below_grows()
+    ensures { BelowGrows }
+{}
+
+/// The recursion takes each formed type as below itself.
+pub fn below_is_reflexive()
+    ensures { BelowIsReflexive }
+{}
+
+/// The recursion takes a formed class type as below its instance at a superclass.
+pub fn below_has_instances()
+    ensures { BelowHasInstances }
+{}
+
+/// Arguments that give way to bounds twice might do so at once.
+pub fn choices_compose()
+    ensures { ChoicesCompose }
+{}
+
+/// A type taken upwards is above what it is with any arguments that are contained and keep their bounds.
+pub fn upwards_is_above()
+    ensures { UpwardsIsAbove }
+{}
+
+/// A type taken downwards is below what it is with any arguments that are contained and keep their bounds.
+pub fn downwards_is_below()
+    ensures { DownwardsIsBelow }
+{}
+
+/// Where no class leads back to itself and parameters stand where their variance lets them, what is below by the rules, by way of formed
+/// types, is refused at no height.
+pub fn sub_is_perhaps()
+    ensures { SubIsPerhaps }
+{}
+
+/// The heads of the examples, with classes of each variance, bounds and a class of functions among them, are valid.
+pub fn has_valid_heads()
+    ensures { HasValidHeads }
+{}
+
+/// What the recursion accepts of formed types is below by the rules, by way of formed types.
+pub fn below_is_formed()
+    ensures { BelowIsFormed }
+{}
+
+/// What is below by way of formed types is below.
+pub fn formed_is_sub()
+    ensures { FormedIsSub }
+{}
+
+/// The recursion is transitive, up to its height: it refuses at no height what is below by way of a third type.
+pub fn below_composes()
+    ensures { BelowComposes }
+{}
+
+/// Where the recursion and the one that says yes beyond its height agree, the answer is the relation's.
+pub fn decided_is_exact()
+    ensures { DecidedIsExact }
+{}
+
+/// What is below by way of a third type is below, where that is decided.
+pub fn decided_is_transitive()
+    ensures { DecidedIsTransitive }
+{}
+
+/// A value that is of a class or below it has the view of its declared type at this class.
+pub fn view_is_sound()
+    ensures { ViewIsSound }
+{}
+
 /// The examples are what the definitions give.
 pub fn examples_hold()
     ensures { ExamplesHold }
+{}
+
+/// In hierarchies that break a rule on supertypes' arguments or on bounds there are questions that never get a yes, though they only
+/// lead on to themselves.
+pub fn questions_are_endless()
+    ensures { Endless }
 {}
 
 /// The heads of the example, a class with a variant superclass among them, are valid.
@@ -46,4 +130,14 @@ pub fn core_has_instances()
 /// On the core, over valid heads, types put in for type parameters keep what is below.
 pub fn core_keeps_putting()
     ensures { CoreKeepsPutting }
+{}
+
+/// What is below in the core is below in the whole relation.
+pub fn core_is_part()
+    ensures { CoreIsPart }
+{}
+
+/// All heads of the core are a part of heads.
+pub fn core_has_whole()
+    ensures { CoreHasWhole }
 {}

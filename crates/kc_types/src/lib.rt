@@ -1,6 +1,7 @@
 //! Types: the table of different types, types as trees, the heads of classes, and what subtyping means.
 #![tactic(auto)]
 
+mod acyclic;
 mod heads;
 mod ids;
 pub mod laws;

@@ -1,8 +1,11 @@
 ghost use Rattle.std.specs.Prelude.{◌<◌, ◌≤◌, length, IfOk};
 ghost use Rattle.kc_types.specs.Tables.{IsNode};
 
-use crate::{ClassId, Parts, Ty, TyArg, TypeId, TypeTable, TypeTooDeep, VarId};
-use kc_text::Fail as Refused;
+use crate::{
+    ClassId, Head, Heads, Parts, Shared, Ty, TyArg, TypeId, TypeTable, TypeTooDeep, TypeTree, VarId,
+};
+use kc_text::{Fail as Refused, Memory};
+use sqlite_items::Items;
 use std::alloc::Global;
 use std::test::Fail;
 
@@ -66,5 +69,44 @@ fn refuses_depth_17(rt: HostRuntime) -> Result<(), Fail> {
     let deeper = box_of(alloc, &mut table, ty);
     assert!(rt; matches!(deeper, Err(Refused::Found(fault)) if fault.depth == 17));
     assert_eq!(rt; table.len(), 16);
+    Ok(())
+}
+
+fn class(alloc: Global, number: usize) -> Result<TypeTree, Memory> {
+    Ok(TypeTree::Class(ClassId(number), Shared::new(alloc, Items::new(alloc))?))
+}
+
+// The heads of classes that each have at most one direct supertype.
+fn heads(alloc: Global, above: &[Option<usize>]) -> Result<Heads, Memory> {
+    let mut classes = Vec::new(alloc);
+    for (place, number) in above.iter().enumerate() {
+        let mut supers = Vec::new(alloc);
+        if let Some(number) = *number {
+            supers.push(class(alloc, number)?)?;
+        }
+        classes.push(Head {
+            class: ClassId(place),
+            params: Items::new(alloc),
+            supers: Items::from_vec(supers),
+        })?;
+    }
+    Ok(Heads {
+        classes: Items::from_vec(classes),
+        others: Items::new(alloc),
+    })
+}
+
+#[test]
+fn finds_classes_that_lead_back(rt: HostRuntime) -> Result<(), Fail> {
+    let alloc = rt.alloc();
+    let upwards = heads(alloc, &[None, Some(0), Some(3), Some(1)])?;
+    let in_turn = heads(alloc, &[None, Some(2), Some(3), Some(1)])?;
+    let to_itself = heads(alloc, &[None, Some(1)])?;
+    let found = [
+        upwards.is_acyclic(alloc)?,
+        in_turn.is_acyclic(alloc)?,
+        to_itself.is_acyclic(alloc)?,
+    ];
+    assert_eq!(rt; found, [true, false, false]);
     Ok(())
 }

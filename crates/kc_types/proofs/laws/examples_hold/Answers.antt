@@ -3,11 +3,18 @@ use Rattle.kc_types.proofs.laws.examples_hold.Goals as goal
 
 pub returns : goal.returns
 returns c = record {
+  common = refl;
+  common_above = refl;
+  common_beside = refl;
   walks = refl;
   at_iterable = refl;
+  of_num = refl;
   star_keeps_bound = refl;
   in_keeps_bound = refl;
   beyond_bound = refl;
+  on_the_way = refl;
+  beyond_twice = refl;
+  declared_out = refl;
   keeps_invariance = refl;
   takes_wider = refl;
   takes_narrower = refl;
@@ -16,6 +23,7 @@ returns c = record {
   null_is_no_any = refl;
   null_is_any_or_null = refl;
   two_marks = refl;
+  one_mark = refl;
   against = refl;
   upwards = refl;
   downwards = refl;
