@@ -1,5 +1,8 @@
 pub mod Readings
 pub mod Refusals
+pub mod Later
+pub mod Stacks
+pub mod Scans
 pub mod Progress
 pub mod Normal
 pub mod Order

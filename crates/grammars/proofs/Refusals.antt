@@ -16,28 +16,28 @@ module _ {R A : Type 0} (G : R → Part R A) where
       wrong : (s r : List A) (x : Cst A) → test f (first s) ≡ false → Reads G (one f) s x r → ⊥
       wrong s r x h (r_one e) = never e h
 
-  inner : {n : R} {ts r : List A} {x : Cst A} → Reads G (row n) ts x r → (y : Cst A) × Reads G (G n) ts y r
+  pub inner : {n : R} {ts r : List A} {x : Cst A} → Reads G (row n) ts x r → (y : Cst A) × Reads G (G n) ts y r
   inner (r_row d) = (_, d)
 
-  record Parts (a b : Part R A) (ts r : List A) : Type 0 where
-    mid : List A
-    x : Cst A
-    y : Cst A
-    here : Reads G a ts x mid
-    there : Reads G b mid y r
+  pub record Parts (a b : Part R A) (ts r : List A) : Type 0 where
+    pub mid : List A
+    pub x : Cst A
+    pub y : Cst A
+    pub here : Reads G a ts x mid
+    pub there : Reads G b mid y r
 
-  parts : {a b : Part R A} {ts r : List A} {x : Cst A} → Reads G (both a b) ts x r → Parts a b ts r
+  pub parts : {a b : Part R A} {ts r : List A} {x : Cst A} → Reads G (both a b) ts x r → Parts a b ts r
   parts (r_both d e) = record { mid = _; x = _; y = _; here = d; there = e }
 
-  chosen_left : {f : Test A} {a b : Part R A} {ts r : List A} {x : Cst A} → f.holds ts ≡ true → Reads G (choose f a b) ts x r → (y : Cst A) × Reads G a ts y r
+  pub chosen_left : {f : Test A} {a b : Part R A} {ts r : List A} {x : Cst A} → f.holds ts ≡ true → Reads G (choose f a b) ts x r → (y : Cst A) × Reads G a ts y r
   chosen_left h (r_left e d) = (_, d)
   chosen_left h (r_right e d) = never h e
 
-  chosen_right : {f : Test A} {a b : Part R A} {ts r : List A} {x : Cst A} → f.holds ts ≡ false → Reads G (choose f a b) ts x r → (y : Cst A) × Reads G b ts y r
+  pub chosen_right : {f : Test A} {a b : Part R A} {ts r : List A} {x : Cst A} → f.holds ts ≡ false → Reads G (choose f a b) ts x r → (y : Cst A) × Reads G b ts y r
   chosen_right h (r_left e d) = never e h
   chosen_right h (r_right e d) = (_, d)
 
-  turned : {f : Test A} {a : Part R A} {ts r : List A} {x : Cst A} → f.holds ts ≡ true → Reads G (many f a) ts x r → Parts a (many f a) ts r
+  pub turned : {f : Test A} {a : Part R A} {ts r : List A} {x : Cst A} → f.holds ts ≡ true → Reads G (many f a) ts x r → Parts a (many f a) ts r
   turned h (r_more e d1 d2) = record { mid = _; x = _; y = _; here = d1; there = d2 }
   turned h (r_done e) = never h e
 
@@ -103,7 +103,7 @@ module _ {R A : Type 0} (G : R → Part R A) where
       l = longer e.before k.before rest early (sym k.split ∙ e.split) shorter
 
   -- a derivation of the part that follows completes what was begun
-  after_more : {a : Part R A} (p q o : List A) {x : Cst A} → Derives G a ((p ++ q) ++ o) x [] → Derives G a (p ++ (q ++ o)) x []
+  pub after_more : {a : Part R A} (p q o : List A) {x : Cst A} → Derives G a ((p ++ q) ++ o) x [] → Derives G a (p ++ (q ++ o)) x []
   after_more {a = a} p q o {x = x} d = subst (λ m. Derives G a m x []) (append_assoc p q o) d
 
   pub stuck_first : {a b : Part R A} {ts rest : List A} → Stuck G a ts rest → Productive G b → Stuck G (both a b) ts rest
@@ -161,7 +161,7 @@ module _ {R A : Type 0} (G : R → Part R A) where
   pub not_both : {a : Part R A} {ts r rest : List A} {x : Cst A} → Reads G a ts x r → Stuck G a ts rest → ⊥
   not_both {a = a} {r = r} {rest = rest} {x = x} d k = k.no_more rest r x refl (along G k.split d)
 
-  into_guard : {f : Test A} {a : Part R A} {ts r : List A} {x : Cst A} → Reads G (guard f a) ts x r → (y : Cst A) × Reads G a ts y r
+  pub into_guard : {f : Test A} {a : Part R A} {ts r : List A} {x : Cst A} → Reads G (guard f a) ts x r → (y : Cst A) × Reads G a ts y r
   into_guard (r_guard h d p) = (_, d)
 
   pub stuck_guard : {f : Test A} {a : Part R A} {ts rest : List A} → f.holds ts ≡ true → (k : Stuck G a ts rest) → f.far ts < length k.before → Stuck G (guard f a) ts rest

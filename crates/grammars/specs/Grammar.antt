@@ -95,6 +95,12 @@ Settled m (r_guard {f = f} {ts = ts} h d p) = (m + f.far ts ≤ length ts) × Se
 abbrev pub Productive : {R A : Type 0} → (R → Part R A) → Part R A → Type 0
 Productive {A = A} G a = (ts : List A) × (x : Cst A) × Derives G a ts x []
 
+-- the tokens before rest begin a list with a derivation
+pub record Begun {R A : Type 0} (G : R → Part R A) (a : Part R A) (ts rest : List A) : Type 0 where
+  pub before : List A
+  pub split : ts ≡ before ++ rest
+  pub begins : (c : List A) × (x : Cst A) × Derives G a (before ++ c) x []
+
 -- The tokens before rest begin a list with a derivation. With the next token, or the end, none is read.
 pub record Stuck {R A : Type 0} (G : R → Part R A) (a : Part R A) (ts rest : List A) : Type 0 where
   pub before : List A

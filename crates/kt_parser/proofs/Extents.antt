@@ -72,10 +72,10 @@ placed_at {ts = ts} {at = at} {end = end} lt w (some_taken k) =
     let n : end - 1 ≡ at + length k.front = omega (arith, lt, w, simp length-drop at size) in
     record { begins = k.first_one ∙ sym k.starts; ends = k.last_one ∙ sym (behind_front at (end - 1) ts k.front (drop end ts) k.split n) }
 
-pub placed : {a : Part Row Token} {ts : List Token} {at end : ℕ} {x : Cst Token} → at < end → Read a ts at end x → Placed ts at end x
+pub placed : {a : Part Row Token} {ts : List Token} {at end looked : ℕ} {x : Cst Token} → at < end → Read a ts at end looked x → Placed ts at end x
 placed lt p = placed_at lt p.within (extent p.reads)
 
 -- the place of a node from the first token of one reading to the last of another
-pub between_is : {a b : Part Row Token} {ts : List Token} {at m n end : ℕ} {x y : Cst Token} → at < m → Read a ts at m x → n < end → Read b ts n end y
+pub between_is : {a b : Part Row Token} {ts : List Token} {at m n end l k : ℕ} {x y : Cst Token} → at < m → Read a ts at m l x → n < end → Read b ts n end k y
     → between (first (drop at ts)) (first (drop (end - 1) ts)) ≡ between (first_of x) (last_of y)
 between_is lt p lt' q = rw ((placed lt p).begins, (placed lt' q).ends) refl

@@ -1,6 +1,9 @@
 pub mod Steps
+pub mod Advances
+pub mod Completed
 pub mod Extents
 pub mod SingleTokens
 pub mod Progress
 pub mod TypeRows
 pub mod NameRows
+pub mod OperandRows

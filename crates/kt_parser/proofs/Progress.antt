@@ -79,8 +79,8 @@ empties rows.local h = h
 empties rows.loop h = h
 
 -- a reading of any other part takes a token
-pub shortens : {a : Part Row Token} {ts : List Token} {at end : ℕ} {x : Cst Token} → is_empty empty a ≡ false → Read a ts at end x → length (drop end ts) < length (drop at ts)
+pub shortens : {a : Part Row Token} {ts : List Token} {at end looked : ℕ} {x : Cst Token} → is_empty empty a ≡ false → Read a ts at end looked x → length (drop end ts) < length (drop at ts)
 shortens h p = progress grammar empty empties (derives grammar p.reads) h
 
-pub goes_on : {a : Part Row Token} {ts : List Token} {at end : ℕ} {x : Cst Token} → is_empty empty a ≡ false → Read a ts at end x → at < end
+pub goes_on : {a : Part Row Token} {ts : List Token} {at end looked : ℕ} {x : Cst Token} → is_empty empty a ≡ false → Read a ts at end looked x → at < end
 goes_on {ts = ts} {at = at} {end = end} h p = farther at end ts (shortens h p)

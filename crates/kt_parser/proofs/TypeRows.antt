@@ -24,9 +24,9 @@ use Rattle.kt_parser.specs.Tokens.{is_op, is_word, is_name, is_out, class_of, be
 use Rattle.kt_parser.specs.TypesBuilt as built
 use Rattle.kt_parser.specs.TypesBuilt.{between, first_of, last_of, word_of}
 use Rattle.kt_parser.proofs.SingleTokens.{a_name, op_token, is_itself}
-use Rattle.kt_parser.proofs.Steps.{standing, settled_on, behind_stuck, read_one, read_both, read_row, read_left, read_right, read_first, read_second, read_nothing, read_done, has_both, fails_row, fails_left, fails_right, fails_second, fails_after, turn}
+use Rattle.kt_parser.proofs.Steps.{standing, settled_near, behind_stuck, read_one, read_both, read_row, read_left, read_right, read_first, read_second, read_nothing, read_done, has_both, fails_row, fails_left, fails_right, fails_second, fails_after, turn}
 use Rattle.kt_parser.proofs.Extents.{between_is, placed}
-use Rattle.kt_parser.proofs.Progress.{shortens, goes_on}
+use Rattle.kt_parser.proofs.Progress.{goes_on}
 
 abbrev pub next_is_arrow : Test Token
 next_is_arrow = next (is_op operator.Arrow)
@@ -163,7 +163,7 @@ pub core_named : (ts : List Token) (at : ℕ) → test (is_op operator.OpenRound
 core_named ts at h (Ok k) q = record { tree = right q.tree; read = read_second h q.read; builds = q.builds }
 core_named ts at h (Err e) q = fails_right h q
 
-named_alike : {s s' : Span} {ws ws' : List Word} {gs gs' : List TypeArg} → s ≡ s' → ws ≡ ws' → gs ≡ gs'
+pub named_alike : {s s' : Span} {ws ws' : List Word} {gs gs' : List TypeArg} → s ≡ s' → ws ≡ ws' → gs ≡ gs'
     → (let t : «Type» = record { span = s; kind = type_kind.Named ws gs } in t) ≡ record { span = s'; kind = type_kind.Named ws' gs' }
 named_alike p q r = cc
 
@@ -337,7 +337,7 @@ pub out_argument : {ts : List Token} {at mid end : ℕ} {x : «Type»} (s : Span
 out_argument {ts = ts} {at = at} s h k o p e =
     let q = read_both (read_one o.taken) p.read in record {
       tree = node (right (right (left (pair (leaf o.taken.token) p.tree))));
-      read = read_row (read_second h (read_second k (read_left o.holds (omega (arith, out_far (drop at ts), shortens refl q)) q)));
+      read = read_row (read_second h (read_second k (read_left o.holds (omega (arith, out_far (drop at ts), goes_on refl q)) q)));
       builds = argument_alike (e ∙ between_is (goes_on refl (read_one o.taken)) (read_one o.taken) (goes_on refl p.read) p.read) (ap argument_kind.Out p.builds);
     }
 
@@ -345,14 +345,14 @@ pub exact_argument : {ts : List Token} {at end : ℕ} {x : «Type»} (s : Span) 
     → Parsed (row rows.type_) built.type_of ts at end x → s ≡ stretch ts at end → Parsed (row rows.type_argument) built.type_argument_of ts at end (record { span = s; kind = argument_kind.Exact x })
 exact_argument {ts = ts} {at = at} s h k o p e = record {
   tree = node (right (right (right p.tree)));
-  read = read_row (read_second h (read_second k (read_right o (omega (arith, out_far (drop at ts), shortens refl p.read)) p.read)));
+  read = read_row (read_second h (read_second k (read_right o (omega (arith, out_far (drop at ts), goes_on refl p.read)) p.read)));
   builds = argument_alike (e ∙ between_is (goes_on refl p.read) p.read (goes_on refl p.read) p.read) (ap argument_kind.Exact p.builds);
 }
 
 pub fails_out : {ts : List Token} {at mid : ℕ} {e : Fail ℕ} → OutTaken ts at mid → Fails (row rows.type_) ts mid e → Fails (choose out_type (both (one is_out) (row rows.type_)) (row rows.type_)) ts at e
 fails_out {ts = ts} {at = at} {mid = mid} o (found {place = place} k) =
     let p = read_one o.taken in
-    let s = stuck_second grammar p.reads k.stuck (settled_on _ _ p.reads (behind_stuck k.stuck) p.settled) in
+    let s = stuck_second grammar p.reads k.stuck (settled_near place p (behind_stuck k.stuck)) in
     found (record {
       stuck = stuck_left grammar o.holds s (omega (arith, out_far (drop at ts), ap length s.split, length-append s.before (drop place ts), behind_stuck k.stuck, ap length o.taken.here));
       within = k.within;
@@ -375,7 +375,7 @@ behind_name [] rest [] e stop h = absurd (true≢false (sym h))
 behind_name (t ∷ ts) rest [] e stop h = absurd (stop (t ∷ []) [] _ (ap first e) (a_name_is_read t h))
 behind_name ts rest (b ∷ before) e stop h = omega arith
 
-out_is_name : (n : ℕ) → (n == 86) ≡ true → nat_lt 83 n ≡ true
+pub out_is_name : (n : ℕ) → (n == 86) ≡ true → nat_lt 83 n ≡ true
 out_is_name n h = rw (eqb-true n 86 h) refl
 
 far_at : (b : Bool) (n : ℕ) → (b ≡ true → 0 < n) → count_if b 0 ≤ n

@@ -6,4 +6,5 @@ pub mod Rows
 pub mod TypesBuilt
 pub mod Built
 pub mod Examples
+pub mod Behind
 pub mod Parsed

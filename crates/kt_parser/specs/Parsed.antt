@@ -1,27 +1,31 @@
 -- What a function of the parser answers.
-use Rattle.std.specs.Prelude.{◌≡◌, ℕ, suc, ◌≤◌, Bool, true, false, List, ◌∷◌, length, drop, Result, Ok, Err, Option, Some, None}
-use Rattle.grammars.specs.Grammar.{Part, one, Cst, Reads, Settled, Stuck, first, test}
+use Rattle.std.specs.Prelude.{◌≡◌, ℕ, suc, ◌≤◌, max, Bool, true, false, List, ◌∷◌, length, drop, Result, Ok, Err, Option, Some, None}
+use Rattle.grammars.specs.Grammar.{Part, one, Cst, Reads, Settled, Begun, Stuck, first, test}
 use Rattle.kc_text.specs.declared.errors.Fail.{Fail}
 use Rattle.kc_text.specs.declared.errors.Fail.TheVariants.{Found, Memory}
 use Rattle.kc_tree.specs.declared.types.Word.{Word}
 use Rattle.kt_lexer.specs.declared.token.Token.{Token}
 use Rattle.kt_lexer.specs.declared.token.Operator.{Operator}
+use Rattle.kt_parser.specs.declared.cursor.Cursor.{Cursor}
 use Rattle.kt_parser.specs.Lookahead.{out_type}
 use Rattle.kt_parser.specs.Rows.{Row, grammar}
 use Rattle.kt_parser.specs.Tokens.{is_op, is_name, is_out}
 use Rattle.kt_parser.specs.TypesBuilt.{word_of}
 
--- The part has this reading from one place to another, and no test has looked at a token behind the next one.
-pub record Read (a : Part Row Token) (ts : List Token) (start end : ℕ) (x : Cst Token) : Type 0 where
+-- The part has this reading from one place to another. No test has looked at a token behind the place `looked`, or behind the next token
+-- where that is farther; and the tokens before that place begin a list with a derivation.
+pub record Read (a : Part Row Token) (ts : List Token) (start end looked : ℕ) (x : Cst Token) : Type 0 where
   pub reads : Reads grammar a (drop start ts) x (drop end ts)
-  pub settled : Settled (length (drop end ts)) reads
+  pub settled : Settled (length (drop (max end looked) ts)) reads
+  pub begun : Begun grammar a (drop start ts) (drop (max end looked) ts)
   pub ahead : start ≤ end
   pub within : end ≤ length ts
+  pub seen : looked ≤ length ts
 
--- what is read, and the value that is built of it
+-- what is read with no test that looked behind the next token, and the value that is built of it
 pub record Parsed {X : Type 0} (a : Part Row Token) (build : Cst Token → X) (ts : List Token) (start end : ℕ) (x : X) : Type 0 where
   pub tree : Cst Token
-  pub read : Read a ts start end tree
+  pub read : Read a ts start end 0 tree
   pub builds : x ≡ build tree
 
 -- no reading goes on with the token at the place
@@ -37,11 +41,38 @@ abbrev pub Parses : {X : Type 0} → Part Row Token → (Cst Token → X) → Li
 Parses a build ts start (Ok p) = Parsed a build ts start p.1 p.0
 Parses a build ts start (Err e) = Fails a ts start e
 
+-- ---- with tests that look farther
+
+-- what is read from one place to another, with how far tests have looked
+pub record Advanced {X : Type 0} (a : Part Row Token) (build : Cst Token → X) (ts : List Token) (start end : Cursor) (x : X) : Type 0 where
+  pub tree : Cst Token
+  pub looked : ℕ
+  pub read : Read a ts start.at end.at looked tree
+  pub builds : x ≡ build tree
+  pub so_far : end.looked ≡ max start.looked looked
+
+-- the place of a refusal is never before one that a test has looked at
+pub data Halts (a : Part Row Token) (ts : List Token) (start : Cursor) : Fail ℕ → Type 0 where
+  halt : {place n : ℕ} → Refused a ts start.at place → n ≡ max start.looked place → Halts a ts start (Found n)
+  halt_memory : Halts a ts start Memory
+
+abbrev pub Advances : {X : Type 0} → Part Row Token → (Cst Token → X) → List Token → Cursor → Result (X × Cursor) (Fail ℕ) → Type 0
+Advances a build ts start (Ok p) = Advanced a build ts start p.1 p.0
+Advances a build ts start (Err e) = Halts a ts start e
+
+-- ---- loops
+
 -- what comes of the rest of a loop from one place is what comes of the whole
 pub record Resumes {X : Type 0} (a : Part Row Token) (all_of : X → Cst Token → X) (ts : List Token) (start : ℕ) (x : X) (at : ℕ) (y : X) : Type 0 where
   pub ahead : start ≤ at
   pub within : at ≤ length ts
   pub whole : (r : Result (X × ℕ) (Fail ℕ)) → Parses a (all_of y) ts at r → Parses a (all_of x) ts start r
+
+-- the same with how far tests have looked
+pub record ResumesOn {X : Type 0} (a : Part Row Token) (all_of : X → Cst Token → X) (ts : List Token) (start : Cursor) (x : X) (at : Cursor) (y : X) : Type 0 where
+  pub ahead : start.at ≤ at.at
+  pub within : at.at ≤ length ts
+  pub whole : (r : Result (X × Cursor) (Fail ℕ)) → Advances a (all_of y) ts at r → Advances a (all_of x) ts start r
 
 -- ---- single tokens
 

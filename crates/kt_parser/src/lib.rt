@@ -1,18 +1,22 @@
 //! The grammar of types, expressions and statements, and the parser of types (Kotlin Language Specification 1.9, "Syntax grammar").
 #![tactic(auto)]
 
+mod cursor;
 mod locals;
 mod lookahead;
+mod operands;
 mod tokens;
 mod types;
 
 ghost use Rattle.kt_parser.specs.Examples.{OperatorsRead, CallsRead, TypeArgumentsRead, ElsesRead, StatementsRead, FunctionTypesRead, MarksRead, ListsRead, ComparisonsRead, ClausesRead, TreesBuilt, PlacesBuilt};
 
+pub use cursor::Cursor;
 pub use locals::{bare_names, colon_type, names, typed_name};
 pub use lookahead::{
     are_parameters, arguments_form, else_follows, is_argument_name, is_catch_clause,
     is_finally_clause, result_follows, suffix_follows,
 };
+pub use operands::operand_type;
 pub use tokens::{
     begins_type, begins_type_argument, class, eat, eat_name, eat_op, eat_out, eat_unmarked,
     eat_word, expect_name, expect_op, is_at, is_op_at, is_unmarked_at, keyword_class, name_class,

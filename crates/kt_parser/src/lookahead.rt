@@ -1,9 +1,9 @@
 //! What stands behind the next token: whether tokens form type arguments or a function type, and words that mean something before
 //! certain tokens.
-ghost use Rattle.std.specs.Prelude.{◌≡◌, ◌≤◌, ◌∷◌, [], List, ◌↔◌, IfOk, IsTrue, MatchOption, drop, length, reverse};
+ghost use Rattle.std.specs.Prelude.{◌≡◌, ◌≤◌, ◌+◌, ◌∷◌, [], List, ◌↔◌, IfOk, IsTrue, MatchOption, drop, length, reverse};
 ghost use Rattle.grammars.specs.Automata.{accepts};
 ghost use Rattle.kt_parser.specs.Lookahead as spec;
-ghost use Rattle.kt_parser.specs.Steps.{as_step};
+ghost use Rattle.kt_parser.specs.Steps.{as_step, Looks};
 ghost use Rattle.kt_parser.specs.Tokens as tokens_of;
 ghost use Rattle.kt_parser.specs.declared.lookahead.Frame.TheVariants as frames_of;
 
@@ -83,6 +83,14 @@ impl Model for Frames {
 pub struct Place {
     pub frames: Frames,
     pub mode: Mode,
+}
+
+/// What a test says of the tokens at a place.
+#[derive(Clone, Copy, Debug, PartialEq, Eq)]
+pub struct Look {
+    pub holds: bool,
+    /// The place of the farthest token that it looks at, or the number of tokens.
+    pub end: usize,
 }
 
 #[derive(Drop)]
@@ -422,8 +430,8 @@ fn scan(
     mode: Mode,
     tokens: &[Token],
     at: usize,
-) -> Result<bool, AllocError>
-    ensures { IfOk result (λ holds. holds ≡ accepts (spec.step goal) (spec.at_end goal) (drop at tokens.now) (record { frames = []; mode = mode })) }
+) -> Result<Look, AllocError>
+    ensures { IfOk result (λ look. Looks goal mode tokens.now at look) }
 {
     let frames = Frames::new(alloc);
     let mut place = Place { frames, mode };
@@ -431,30 +439,31 @@ fn scan(
     while let Some(token) = tokens.get(at) {
         match step(goal, place, token)? {
             Next::Go(next) => place = next,
-            Next::Stop(holds) => return Ok(holds),
+            Next::Stop(holds) => return Ok(Look { holds, end: at }),
         }
         at += 1;
     }
-    Ok(is_found_at_end(goal, place.mode))
+    let holds = is_found_at_end(goal, place.mode);
+    Ok(Look { holds, end: at })
 }
 
 /// Whether a member, an index, a call or a postfix operator follows an operand that ends before the place.
-pub fn suffix_follows(alloc: Global, tokens: &[Token], at: usize) -> Result<bool, AllocError>
-    ensures { IfOk result (λ holds. holds ≡ spec.suffix_follows.holds (drop at tokens.now)) }
+pub fn suffix_follows(alloc: Global, tokens: &[Token], at: usize) -> Result<Look, AllocError>
+    ensures { IfOk result (λ look. (look.holds ≡ spec.suffix_follows.holds (drop at tokens.now)) × (look.end ≡ at + spec.suffix_follows.far (drop at tokens.now))) }
 {
     scan(alloc, Goal::BeforeCall, Mode::Operand, tokens, at)
 }
 
 /// Whether the tokens form type arguments behind the name of a type.
-pub fn arguments_form(alloc: Global, tokens: &[Token], at: usize) -> Result<bool, AllocError>
-    ensures { IfOk result (λ holds. holds ≡ spec.arguments_form.holds (drop at tokens.now)) }
+pub fn arguments_form(alloc: Global, tokens: &[Token], at: usize) -> Result<Look, AllocError>
+    ensures { IfOk result (λ look. (look.holds ≡ spec.arguments_form.holds (drop at tokens.now)) × (look.end ≡ at + spec.arguments_form.far (drop at tokens.now))) }
 {
     scan(alloc, Goal::Anywhere, Mode::Operand, tokens, at)
 }
 
 /// Whether `->` and a type stand before a further `->` or `,`.
-pub fn result_follows(alloc: Global, tokens: &[Token], at: usize) -> Result<bool, AllocError>
-    ensures { IfOk result (λ holds. holds ≡ spec.result_follows.holds (drop at tokens.now)) }
+pub fn result_follows(alloc: Global, tokens: &[Token], at: usize) -> Result<Look, AllocError>
+    ensures { IfOk result (λ look. (look.holds ≡ spec.result_follows.holds (drop at tokens.now)) × (look.end ≡ at + spec.result_follows.far (drop at tokens.now))) }
 {
     scan(alloc, Goal::BeforeArrow, Mode::Arrow, tokens, at)
 }

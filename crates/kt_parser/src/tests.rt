@@ -76,9 +76,9 @@ fn told(alloc: Global, source: &str) -> Result<String, Failed> {
     let tokens = found.as_slice();
     let line = format!(in alloc;
         "{} {} {} {} {} {}",
-        suffix_follows(alloc, tokens, 1)?,
-        arguments_form(alloc, tokens, 1)?,
-        result_follows(alloc, tokens, 1)?,
+        suffix_follows(alloc, tokens, 1)?.holds,
+        arguments_form(alloc, tokens, 1)?.holds,
+        result_follows(alloc, tokens, 1)?.holds,
         else_follows(tokens, 1),
         is_catch_clause(tokens, 1),
         is_finally_clause(tokens, 1)

@@ -77,7 +77,7 @@ fn more_words(
 }
 
 /// Any number of `?` behind a type that begins at `start`.
-fn nullables(
+pub fn nullables(
     alloc: Global,
     tokens: &[Token],
     start: usize,
@@ -139,7 +139,11 @@ fn named_type(alloc: Global, tokens: &[Token], at: usize) -> Result<(Type, usize
 }
 
 #[cycle(types)]
-fn bracketed_type(alloc: Global, tokens: &[Token], at: usize) -> Result<(Type, usize), Fail<usize>>
+pub fn bracketed_type(
+    alloc: Global,
+    tokens: &[Token],
+    at: usize,
+) -> Result<(Type, usize), Fail<usize>>
     requires { at ≤ length tokens.now }
     ensures { Parses (row rows.bracketed_type) built.in_brackets_of tokens.now at result }
 {
