@@ -78,7 +78,8 @@ pub struct Expr {
 
 /// What an expression or a statement is (Kotlin Language Specification 1.9, "Expressions" and "Statements").
 /// Operands stand in written order. Where a node may call a function whose name is not written, `token` is the place of the token
-/// that stands for the name: the operator, `[` of an index, `in` of a loop, or the first token behind a callee that has no name.
+/// that stands for the name: the operator, `[` of an index, `in` of a loop, or, behind a callee and its type arguments, the `(` of
+/// the arguments, or the label or the `{` of a lambda that is the only argument.
 /// A prefix operator begins its node, and a postfix operator is the last two units of it.
 #[cycle(tree)]
 #[derive(Drop)]
