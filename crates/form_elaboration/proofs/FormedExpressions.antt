@@ -18,13 +18,14 @@ use Rattle.form_elaboration.specs.declared.scope.Visible.{Visible}
 use Rattle.form_elaboration.specs.Names.{same_spelling, found}
 use Rattle.form_elaboration.specs.Nodes.{node, equality}
 use Rattle.form_elaboration.specs.Expressions.{of_type, both, read, expression_layer, expression_of}
+use Rattle.form_elaboration.proofs.Layers.{expression_twice}
 use Rattle.form_elaboration.proofs.Fits.{same_value, mapped, of_typed, both_typed, among_same, local_of, Fits, found_fits}
 
 -- an operand, by its place
 abbrev pub Placed : Type 0
 Placed = Place → Option Core
 
-abbrev at_place : Expression-F Placed (Option Core) → Option Core
+abbrev pub at_place : Expression-F Placed (Option Core) → Option Core
 at_place e = e.kind e.place
 
 module _ (file : ℕ) (text : List ℕ) (visible : List Visible) (locals : List Local) (a : Assigned) (fits : Fits locals a visible) where
@@ -106,25 +107,11 @@ module _ (file : ℕ) (text : List ℕ) (visible : List Visible) (locals : List 
   abbrev fold_of : Expression → Option Core
   fold_of e = fold-Expression Placed (Option Core) (expression_layer file text visible) at_place e
 
-  kind_twice : (A B : Type 0) (p : A → ExpressionKind) (q : B → Expression) (y : ExpressionKind-F A B)
-      → map-ExpressionKind ExpressionKind Expression Placed (Option Core) kind_fold fold_of (map-ExpressionKind A B ExpressionKind Expression p q y)
-      ≡ map-ExpressionKind A B Placed (Option Core) (λ a. kind_fold (p a)) (λ b. fold_of (q b)) y
-  kind_twice A B p q (ExpressionKind-F.Number n) = refl
-  kind_twice A B p q (ExpressionKind-F.Truth b) = refl
-  kind_twice A B p q (ExpressionKind-F.Name n) = refl
-  kind_twice A B p q (ExpressionKind-F.Negation x) = refl
-  kind_twice A B p q (ExpressionKind-F.Not x) = refl
-  kind_twice A B p q (ExpressionKind-F.Binary op x y) = refl
-  kind_twice A B p q (ExpressionKind-F.Compare order x y) = refl
-  kind_twice A B p q (ExpressionKind-F.Equality equal x y) = refl
-  kind_twice A B p q (ExpressionKind-F.And x y) = refl
-  kind_twice A B p q (ExpressionKind-F.Or x y) = refl
-
   every_kind : (k : ExpressionKind) (p : Place) → Forms (kind_fold k p)
   every_kind k = ind-ExpressionKind (λ k. (p : Place) → Forms (kind_fold k p)) (λ e. Forms (fold_of e))
       (λ x y is. subst (λ z. (p : Place) → Forms (kind_fold (roll-ExpressionKind z) p)) is
       (subst (λ (w : Placed). (p : Place) → Forms (w p))
-      (sym (fold-roll-ExpressionKind Placed (Option Core) (expression_layer file text visible) at_place (map-ExpressionKind _ _ ExpressionKind Expression (λ a. a.0) (λ b. b.0) y) ∙ ap (expression_layer file text visible) (kind_twice _ _ (λ a. a.0) (λ b. b.0) y)))
+      (sym (fold-roll-ExpressionKind Placed (Option Core) (expression_layer file text visible) at_place (map-ExpressionKind _ _ ExpressionKind Expression (λ a. a.0) (λ b. b.0) y) ∙ ap (expression_layer file text visible) (expression_twice _ _ ExpressionKind Expression Placed (Option Core) (λ a. a.0) (λ b. b.0) kind_fold fold_of y)))
       (layer_formed _ _ (λ a. kind_fold a.0) (λ b. fold_of b.0) (λ b. b.1) y)))
       (λ x y is. subst (λ z. Forms (fold_of (roll-Expression z))) is
       (subst Forms (sym (fold-roll-Expression Placed (Option Core) (expression_layer file text visible) at_place (map-Expression _ _ ExpressionKind Expression (λ a. a.0) (λ b. b.0) y))) (y.kind.1 y.place)))

@@ -24,6 +24,7 @@ use Rattle.form_elaboration.specs.Names.{same_spelling, found}
 use Rattle.form_elaboration.specs.Nodes.{node, line_feed, line, printing}
 use Rattle.form_elaboration.specs.Expressions.{of_type, expression_of}
 use Rattle.form_elaboration.specs.Statements.{Elaborated, Step, step, stepped, declaring, declaration_of, assigning, assignment_of, condition_of, choosing, other_way, choice_of, in_loop, repeating, repetition_of, statement_layer, Several, followed, in_turn, closing, body_layer, statement_of, body_of}
+use Rattle.form_elaboration.proofs.Layers.{map_twice, statement_twice}
 use Rattle.form_elaboration.proofs.Fits.{same_value, none_or_some, mapped, chained, of_typed, among_same, among_trans, marked_grows, marked_on, Front, front_same, front_trans, declared_there, local_of, Fits, found_fits, fits_more, fits_append}
 use Rattle.form_elaboration.proofs.FormedExpressions.{expression_formed}
 
@@ -301,26 +302,12 @@ layer_sound file text A B g f sound (Statement-F.If p test held (Some failed)) =
     choice_sound file text p test (f held) (Some (f failed)) (sound held) (λ r e. subst BodySounds (same_value e) (sound failed))
 layer_sound file text A B g f sound (Statement-F.While p test body) = repetition_sound file text p test (f body) (sound body)
 
-map_twice : (A B C : Type 0) (f : B → C) (g : A → B) (es : List A) → map f (map g es) ≡ map (λ a. f (g a)) es
-map_twice A B C f g [] = refl
-map_twice A B C f g (e ∷ es) = ap (λ l. f (g e) ∷ l) (map_twice A B C f g es)
-
-layer_twice : (file : ℕ) (text : List ℕ) (A B : Type 0) (p : A → Statement) (q : B → Body) (y : Statement-F A B)
-    → map-Statement Statement Body Elaborated Elaborated (statement_of file text) (body_of file text) (map-Statement A B Statement Body p q y)
-    ≡ map-Statement A B Elaborated Elaborated (λ a. statement_of file text (p a)) (λ b. body_of file text (q b)) y
-layer_twice file text A B p q (Statement-F.Declare place is_var name value) = refl
-layer_twice file text A B p q (Statement-F.Assign place name value) = refl
-layer_twice file text A B p q (Statement-F.Print place value) = refl
-layer_twice file text A B p q (Statement-F.If place test held None) = refl
-layer_twice file text A B p q (Statement-F.If place test held (Some failed)) = refl
-layer_twice file text A B p q (Statement-F.While place test body) = refl
-
-statement_rolled : (file : ℕ) (text : List ℕ) (y : Statement-F Statement Body)
+pub statement_rolled : (file : ℕ) (text : List ℕ) (y : Statement-F Statement Body)
     → statement_of file text (roll-Statement y) ≡ statement_layer file text (map-Statement Statement Body Elaborated Elaborated (statement_of file text) (body_of file text) y)
 unfolding statement_of body_of
 statement_rolled file text y = fold-roll-Statement Elaborated Elaborated (statement_layer file text) (body_layer file) y
 
-body_rolled : (file : ℕ) (text : List ℕ) (y : Body-F Statement Body)
+pub body_rolled : (file : ℕ) (text : List ℕ) (y : Body-F Statement Body)
     → body_of file text (roll-Body y) ≡ body_layer file (map-Body Statement Body Elaborated Elaborated (statement_of file text) (body_of file text) y)
 unfolding statement_of body_of
 body_rolled file text y = fold-roll-Body Elaborated Elaborated (statement_layer file text) (body_layer file) y
@@ -329,7 +316,7 @@ pub every_statement : (file : ℕ) (text : List ℕ) (s : Statement) → Sounds 
 every_statement file text s = ind-Statement (λ s. Sounds (statement_of file text s)) (λ b. BodySounds (body_of file text b))
     (λ x y is. subst (λ z. Sounds (statement_of file text (roll-Statement z))) is
     (subst Sounds
-    (sym (statement_rolled file text (map-Statement _ _ Statement Body (λ a. a.0) (λ b. b.0) y) ∙ ap (statement_layer file text) (layer_twice file text _ _ (λ a. a.0) (λ b. b.0) y)))
+    (sym (statement_rolled file text (map-Statement _ _ Statement Body (λ a. a.0) (λ b. b.0) y) ∙ ap (statement_layer file text) (statement_twice _ _ Statement Body Elaborated Elaborated (λ a. a.0) (λ b. b.0) (statement_of file text) (body_of file text) y)))
     (layer_sound file text _ _ (λ a. statement_of file text a.0) (λ b. body_of file text b.0) (λ b. b.1) y)))
     (λ x y is. subst (λ z. BodySounds (body_of file text (roll-Body z))) is
     (subst BodySounds

@@ -1,7 +1,12 @@
 pub mod Bodies
+pub mod Counts
 pub mod Fits
 pub mod FormedExpressions
 pub mod FormedStatements
 pub mod Forms
+pub mod Layers
+pub mod Light
+pub mod PaidExpressions
+pub mod PaidStatements
 pub mod Programs
 pub mod Turns

@@ -5,3 +5,4 @@ pub mod Statements
 pub mod Elaboration
 pub mod Laws
 pub mod Form
+pub mod Light

@@ -4,6 +4,7 @@ ghost use Rattle.std.specs.Prelude.{IfOk};
 ghost use Rattle.kc_core.specs.Formed.{MainFormed};
 ghost use Rattle.form_elaboration.specs.Laws.{IsMainAlone};
 ghost use Rattle.form_elaboration.specs.Form.{ReadsForm, FormIsDetermined};
+ghost use Rattle.form_elaboration.specs.Light.{ProgramsAreLight};
 
 use crate::program::elaborate;
 use form_parser::{NotBuilt, read_source};
@@ -25,4 +26,10 @@ pub fn read_form(alloc: Global, file: usize, bytes: &[u8]) -> Result<Program, Fa
 /// A file has one program at most.
 pub fn form_is_determined()
     ensures { FormIsDetermined }
+{}
+
+/// The function of every program of the form is light: its weight, its nodes, its locals and the units of its texts are bounded,
+/// since a file has at most 256 bytes.
+pub fn programs_are_light()
+    ensures { ProgramsAreLight }
 {}

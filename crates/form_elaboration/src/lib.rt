@@ -11,5 +11,5 @@ mod statements;
 #[cfg(test)]
 mod tests;
 
-pub use form::{form_is_determined, read_form};
+pub use form::{form_is_determined, programs_are_light, read_form};
 pub use program::{elaborate, elaborated_is_formed, elaborated_is_main};

@@ -120,7 +120,7 @@ behind_token : {at count : ℕ} {k : TokenKind} {us : List ℕ} {marked : Bool} 
 behind_token {at = at} (a_word {u = u} {us = us} h w e) c = subst (λ (n : ℕ). Later (at + n) (drop n (u ∷ us))) (sym e) (behind_word h c)
 behind_token {at = at} (a_sign {u = u} {us = us} h j e f) c = subst (λ (n : ℕ). Later (at + n) (drop n (u ∷ us))) (sym f) (behind_sign h j c)
 
-some_units : {k : TokenKind} (w : List ℕ) → word_kind w ≡ Some k → 0 < length w
+pub some_units : {k : TokenKind} (w : List ℕ) → word_kind w ≡ Some k → 0 < length w
 some_units [] e = absurd (none_or_some refl e)
 some_units (u ∷ us) e = omega arith
 
@@ -133,7 +133,7 @@ sized_length (Some k) n e = cc
 sized_length None n e = absurd (cc)
 
 -- a sign has one or two units, where there are so many
-signs_length : (u : ℕ) (us : List ℕ) {s : Sign} → sign_of u us ≡ Some s → (0 < s.length) × (s.length ≤ 1 + length us)
+pub signs_length : (u : ℕ) (us : List ℕ) {s : Sign} → sign_of u us ≡ Some s → (0 < s.length) × (s.length ≤ 1 + length us)
 signs_length u [] e = let n = sized_length (single_kind u) 1 e in (omega (arith, n), omega (arith, n))
 signs_length u (v ∷ rest) {s = s} e = by (is_foreign u v || is_identity u v rest) (double_kind u v) e
   where

@@ -3,3 +3,4 @@ pub mod Grammar
 pub mod Form
 pub mod Pieces
 pub mod Parsed
+pub mod Sizes

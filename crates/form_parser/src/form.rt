@@ -1,6 +1,7 @@
 //! The form of a source file, from its bytes to its tree.
 
 ghost use Rattle.form_parser.specs.Form.{ReadsForm, SourceIsDetermined};
+ghost use Rattle.form_parser.specs.Sizes.{SizeIsWithinBytes};
 
 use crate::parser::parse;
 use crate::surface::Source;
@@ -22,4 +23,9 @@ pub fn read_source(alloc: Global, bytes: &[u8]) -> Result<Source, Fail<NotBuilt>
 /// A file has one tree at most.
 pub fn source_is_determined()
     ensures { SourceIsDetermined }
+{}
+
+/// A file's tree takes no more tokens than the file has bytes.
+pub fn size_is_within_bytes()
+    ensures { SizeIsWithinBytes }
 {}

@@ -11,6 +11,6 @@ pub mod surface;
 mod tests;
 mod tokens;
 
-pub use form::{read_source, source_is_determined};
+pub use form::{read_source, size_is_within_bytes, source_is_determined};
 pub use parser::parse;
 pub use tokens::{NotBuilt, Place, Token, TokenKind, tokens_of};

@@ -1,5 +1,4 @@
-//! Tests: words, lines and statuses; files of the form; and whole commands over objects in memory.
+//! Tests: words, lines and statuses; and whole commands over objects in memory.
 
 mod commands;
-mod files;
 mod lines;

@@ -6,6 +6,7 @@ pub mod Meaning
 pub mod MeaningLaws
 pub mod Formed
 pub mod FormedLaws
+pub mod Sizes
 pub mod Room
 pub mod RoomLaws
 pub mod Theorems

@@ -1,6 +1,6 @@
 //! Files that are of the form, with the shapes of their programs, and files that are not.
 
-use form_elaboration::read_form;
+use crate::read_form;
 use kc_core::tree::{BinaryOp, Core, Kind, Program};
 use std::alloc::{AllocError, Global};
 use std::test::Fail;
