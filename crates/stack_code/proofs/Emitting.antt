@@ -8,11 +8,13 @@ use Rattle.class_file.specs.Pools.{Slots, flat, entry_at, text_in, name_in, type
 use Rattle.class_file.specs.declared.value.NativeId.{NativeId}
 use Rattle.class_file.specs.Lots.{NamesNative}
 use Rattle.stack_code.specs.Code.{native_of, Operation, PushInt, PushText, Load, Store, Compute, Negate, Discard, Call, Jump, JumpIf, JumpCompare, Leave, bytes_of, StandsFor, Spells, Emitted, kept, two_ops, truth}
-use Rattle.std.proofs.Common.{drop, ◌<◌, ◌≤◌, Bool, true, false, get_or}
-use Rattle.std.proofs.lemmas.List.{drop_all, drop_more}
+use Rattle.std.proofs.Common.{drop, ◌<◌, ◌≤◌, ◌*◌, Bool, true, false, get_or, arith}
+use Rattle.std.proofs.lemmas.List.{drop_all, drop_more, length-append}
 use Rattle.kc_core.specs.declared.tree.Core.{Core}
-use Rattle.stack_code.specs.Emission.{Emits, IsFor, NamesTypes, Partly}
-use Rattle.stack_code.proofs.Lists.{get_front}
+use Rattle.class_file.specs.Indexing.{places_of, added, IndexesOnce}
+use Rattle.stack_code.specs.declared.operations.CodeBuffer.{CodeBuffer}
+use Rattle.stack_code.specs.Emission.{HasInstruction, HaveInstructions, Emits, IsFor, NamesTypes, Partly}
+use Rattle.stack_code.proofs.Lists.{get_front, bytes_append}
 
 pub extends_none : (p : Slots) → Extends p p
 extends_none p = ([], sym (append-nil p))
@@ -177,33 +179,95 @@ spells_append p (i ∷ is) js (o ∷ os) more at h g = (h.0, h.1, spells_append 
 spells_append p [] js (o ∷ os) more at h g = absurd h
 spells_append p (i ∷ is) js [] more at h g = absurd h
 
+-- an entry that goes to the pool takes its places there
+pub grown_once : (p q : Slots) (e : Entry) → IndexesOnce p q e → length q ≤ length p + places_of e
+grown_once p q e h = ⊎_elim (λ a. let l = ap length a.1 in omega (arith, l)) (λ a. let l = ap length a.1 in let m = length-append p (added e) in let n = by_kind e in omega (arith, l, m, n)) h
+  where
+    by_kind : (e : Entry) → length (added e) ≡ places_of e
+    by_kind (Utf8 t) = refl
+    by_kind (Integer n) = refl
+    by_kind (Long n) = refl
+    by_kind (Class n) = refl
+    by_kind (Str n) = refl
+    by_kind (FieldRef a b) = refl
+    by_kind (MethodRef a b) = refl
+    by_kind (InterfaceMethodRef a b) = refl
+    by_kind (NameAndType a b) = refl
+
 -- nothing is emitted
-pub emits_none : (code : List Instr) (p : Slots) → Emits code code p p []
-emits_none code p = record { added = []; whole = sym (append-nil code); kept = extends_none p; spells = λ at. tt }
-
--- one instruction
-pub emits_one : (old new : List Instr) (p q : Slots) (i : Instr) (op : Operation) → new ≡ old ++ i ∷ [] → Extends p q → IsFor q i op → Emits old new p q (op ∷ [])
-emits_one old new p q i op e x f = record { added = i ∷ []; whole = e; kept = x; spells = λ at. (f.stands at, f.long, tt) }
-
--- one stretch behind another
-pub emits_then : (a b c : List Instr) (p q r : Slots) (ops more : List Operation) → Emits a b p q ops → Emits b c q r more → Emits a c p r (ops ++ more)
-emits_then a b c p q r ops more f g = record {
-  added = f.added ++ g.added;
-  whole = g.whole ∙ ap (λ w. w ++ g.added) f.whole ∙ append_assoc a f.added g.added;
-  kept = extends_on p q r f.kept g.kept;
-  spells = λ at. spells_append r f.added g.added ops more at (spells_kept q r at f.added ops g.kept (f.spells at)) g.spells;
+pub emits_none : (code : CodeBuffer) (p : Slots) → Emits code code p p []
+emits_none code p = record {
+  added = [];
+  whole = sym (append-nil code.instrs.items);
+  kept = extends_none p;
+  fitted = λ f. f;
+  spells = λ f at. tt;
+  grown = λ f. omega arith;
+  fits = λ f all room. f;
 }
 
+-- one instruction
+pub emits_one : (old new : CodeBuffer) (p q : Slots) (i : Instr) (op : Operation) → new.instrs.items ≡ old.instrs.items ++ i ∷ [] → new.fits ≡ old.fits → Extends p q → length q ≤ length p + 2 * bytes_of op → IsFor q i op → Emits old new p q (op ∷ [])
+emits_one old new p q i op e same x l f = record {
+  added = i ∷ [];
+  whole = e;
+  kept = x;
+  fitted = λ g. sym same ∙ g;
+  spells = λ g at. (f.stands at, f.long, tt);
+  grown = λ g. omega (arith, l);
+  fits = λ g all room. same ∙ g;
+}
+
+-- an operation that has no instruction, or for which the pool has no room
+pub emits_unfit : (old new : CodeBuffer) (p q : Slots) (op : Operation) → new.instrs.items ≡ old.instrs.items → new.fits ≡ false → Extends p q → (HasInstruction op → length p + 2 * bytes_of op ≤ 65535 → ⊥) → Emits old new p q (op ∷ [])
+emits_unfit old new p q op e off x unfit = record {
+  added = [];
+  whole = e ∙ sym (append-nil old.instrs.items);
+  kept = x;
+  fitted = λ g. clash off g;
+  spells = λ g. clash off g;
+  grown = λ g. clash off g;
+  fits = λ g all room. absurd (unfit all.0 (omega (arith, room)));
+}
+  where
+    clash : {A : Type 0} {b : Bool} → b ≡ false → b ≡ true → A
+    clash e f = absurd (let g = sym e ∙ f in cc)
+
+-- one stretch behind another
+pub emits_then : (a b c : CodeBuffer) (p q r : Slots) (ops more : List Operation) → Emits a b p q ops → Emits b c q r more → Emits a c p r (ops ++ more)
+emits_then a b c p q r ops more f g =
+    let n = bytes_append ops more in
+    record {
+      added = f.added ++ g.added;
+      whole = g.whole ∙ ap (λ w. w ++ g.added) f.whole ∙ append_assoc a.instrs.items f.added g.added;
+      kept = extends_on p q r f.kept g.kept;
+      fitted = λ on. f.fitted (g.fitted on);
+      spells = λ on at. spells_append r f.added g.added ops more at (spells_kept q r at f.added ops g.kept (f.spells (g.fitted on) at)) (g.spells on);
+      grown = λ on. let l = f.grown (g.fitted on) in let m = g.grown on in omega (arith, l, m, n);
+      fits = λ on all room.
+          let first : b.fits ≡ true = f.fits on (all_front ops more all) (omega (arith, room, n)) in
+          let l = f.grown first in
+          g.fits first (all_behind ops more all) (omega (arith, room, n, l));
+    }
+  where
+    all_front : (xs ys : List Operation) → HaveInstructions (xs ++ ys) → HaveInstructions xs
+    all_front [] ys h = tt
+    all_front (x ∷ xs) ys h = (h.0, all_front xs ys h.1)
+
+    all_behind : (xs ys : List Operation) → HaveInstructions (xs ++ ys) → HaveInstructions ys
+    all_behind [] ys h = h
+    all_behind (x ∷ xs) ys h = all_behind xs ys h.1
+
 -- one instruction that needs no entry of the pool, and how it comes at the code's end
-pub emits_row : (old new : List Instr) (i : Instr) (op : Operation) → new ≡ old ++ i ∷ [] → ((p : Slots) → IsFor p i op) → (p : Slots) → Emits old new p p (op ∷ [])
-emits_row old new i op e f p = emits_one old new p p i op e (extends_none p) (f p)
+pub emits_row : (old new : CodeBuffer) (i : Instr) (op : Operation) → new.instrs.items ≡ old.instrs.items ++ i ∷ [] → new.fits ≡ old.fits → ((p : Slots) → IsFor p i op) → (p : Slots) → Emits old new p p (op ∷ [])
+emits_row old new i op e same f p = emits_one old new p p i op e same (extends_none p) (omega arith) (f p)
 
 -- nothing is emitted yet
-pub partly_none : (code : List Instr) (p : Slots) (total : List Operation) → Partly code code p p total total
+pub partly_none : (code : CodeBuffer) (p : Slots) (total : List Operation) → Partly code code p p total total
 partly_none code p total = record { front = []; emitted = emits_none code p; whole = refl }
 
 -- one stretch more
-pub partly_on : (a b c : List Instr) (p q r : Slots) (ops more rest total : List Operation) → rest ≡ ops ++ more → Partly a b p q rest total → Emits b c q r ops → Partly a c p r more total
+pub partly_on : (a b c : CodeBuffer) (p q r : Slots) (ops more rest total : List Operation) → rest ≡ ops ++ more → Partly a b p q rest total → Emits b c q r ops → Partly a c p r more total
 partly_on a b c p q r ops more rest total e f g = record {
   front = f.front ++ ops;
   emitted = emits_then a b c p q r f.front ops f.emitted g;
@@ -211,7 +275,7 @@ partly_on a b c p q r ops more rest total e f g = record {
 }
 
 -- all is emitted
-pub partly_all : (a b : List Instr) (p q : Slots) (rest total : List Operation) → rest ≡ [] → Partly a b p q rest total → Emits a b p q total
+pub partly_all : (a b : CodeBuffer) (p q : Slots) (rest total : List Operation) → rest ≡ [] → Partly a b p q rest total → Emits a b p q total
 partly_all a b p q rest total e f =
     subst (Emits a b p q) (sym (append-nil f.front) ∙ ap (λ w. f.front ++ w) (sym e) ∙ f.whole) f.emitted
 
@@ -223,15 +287,15 @@ pub nothing_left : (es : List Core) (i : ℕ) → length es ≤ i → drop i es 
 nothing_left es i h = drop_all i es h
 
 -- code, and what stands behind it
-pub emits_kept : (a b c : List Instr) (p q r : Slots) (goes : Bool) (ops more : List Operation) → goes ≡ true → Emits a b p q ops → Emits b c q r more → Emits a c p r (ops ++ kept goes more)
+pub emits_kept : (a b c : CodeBuffer) (p q r : Slots) (goes : Bool) (ops more : List Operation) → goes ≡ true → Emits a b p q ops → Emits b c q r more → Emits a c p r (ops ++ kept goes more)
 emits_kept a b c p q r goes ops more on f g = subst (λ g. Emits a c p r (ops ++ kept g more)) (sym on) (emits_then a b c p q r ops more f g)
 
 -- code that does not go on
-pub emits_alone : (a b : List Instr) (p q : Slots) (goes : Bool) (ops more : List Operation) → goes ≡ false → Emits a b p q ops → Emits a b p q (ops ++ kept goes more)
+pub emits_alone : (a b : CodeBuffer) (p q : Slots) (goes : Bool) (ops more : List Operation) → goes ≡ false → Emits a b p q ops → Emits a b p q (ops ++ kept goes more)
 emits_alone a b p q goes ops more off f = subst (λ g. Emits a b p q (ops ++ kept g more)) (sym off) (subst (Emits a b p q) (sym (append-nil ops)) f)
 
 -- two stretches of code, and what stands behind both
-pub emits_two : (a b c : List Instr) (p q r : Slots) (x y : Emitted) (tail : List Operation) → (x.goes_on && y.goes_on) ≡ true → Emits a b p q (x.code ++ kept x.goes_on y.code) → Emits b c q r tail → Emits a c p r (two_ops x y tail)
+pub emits_two : (a b c : CodeBuffer) (p q r : Slots) (x y : Emitted) (tail : List Operation) → (x.goes_on && y.goes_on) ≡ true → Emits a b p q (x.code ++ kept x.goes_on y.code) → Emits b c q r tail → Emits a c p r (two_ops x y tail)
 emits_two a b c p q r x y tail both f g = by_both x.goes_on y.goes_on both f
   where
     by_both : (u v : Bool) → (u && v) ≡ true → Emits a b p q (x.code ++ kept u y.code) → Emits a c p r (x.code ++ kept u (y.code ++ kept v tail))
@@ -240,10 +304,10 @@ emits_two a b c p q r x y tail both f g = by_both x.goes_on y.goes_on both f
     by_both false v e f = cc
 
 -- a test, and the value made of what it comes to
-pub emits_truth : (a b c : List Instr) (p q : Slots) (g goes : Bool) (ops whole : List Operation) → g ≡ goes → whole ≡ ops ++ kept goes truth → Emits a b p q ops → ((r : Slots) → Emits b c r r (kept g truth)) → Emits a c p q whole
+pub emits_truth : (a b c : CodeBuffer) (p q : Slots) (g goes : Bool) (ops whole : List Operation) → g ≡ goes → whole ≡ ops ++ kept goes truth → Emits a b p q ops → ((r : Slots) → Emits b c r r (kept g truth)) → Emits a c p q whole
 emits_truth a b c p q g goes ops whole e is f h =
     subst (Emits a c p q) (sym is) (emits_then a b c p q q ops (kept goes truth) f (subst (λ g. Emits b c q q (kept g truth)) e (h q)))
 
 -- code that begins empty
-pub emits_all : (new : List Instr) (p q : Slots) (ops : List Operation) → Emits [] new p q ops → Spells q 0 new ops
-emits_all new p q ops f = subst (λ is. Spells q 0 is ops) (sym f.whole) (f.spells 0)
+pub emits_all : (old new : CodeBuffer) (p q : Slots) (ops : List Operation) → old.instrs.items ≡ [] → new.fits ≡ true → Emits old new p q ops → Spells q 0 new.instrs.items ops
+emits_all old new p q ops e on f = subst (λ is. Spells q 0 is ops) (sym (f.whole ∙ ap (λ w. w ++ f.added) e)) (f.spells on 0)

@@ -34,3 +34,5 @@ pub mod Passing
 pub mod Layered
 pub mod Listed
 pub mod Entering
+pub mod Low
+pub mod Near

@@ -1,5 +1,5 @@
 -- Every node: its size is that of its code, and its code does what it does.
-use Rattle.std.proofs.Common.{append-nil, ◌≡◌, ℕ, zero, suc, ◌+◌, List, [], ◌∷◌, ◌++◌, map, Some, None, Bool, true, false, refl, sym, ap, ◌∙◌, subst, arith}
+use Rattle.std.proofs.Common.{append-nil, ◌≡◌, ℕ, zero, suc, ◌+◌, List, [], ◌∷◌, ◌++◌, map, Option, Some, None, Bool, true, false, refl, sym, ap, ◌∙◌, subst, arith}
 use Rattle.std.specs.Prelude.{ℤ, pos, negsuc, not, nat_lt, nat_le, int_lt, int_le, ◌&&◌, if◌then◌else◌}
 use Rattle.std.proofs.lemmas.Bool.{ltb-true, ltb-false, leb-true, leb-false}
 use Rattle.std.specs.Ordering.{int_eq}
@@ -21,7 +21,8 @@ use Rattle.kc_core.specs.Meaning.{State, Completion, then_do, enter, checked, ru
 use Rattle.class_file.specs.declared.class.Set.{Set}
 use Rattle.class_file.specs.Machine.{holds}
 use Rattle.stack_code.specs.declared.constants.Helper.TheVariants as helper
-use Rattle.stack_code.specs.Code.{Operation, PushInt, Compute, Negate, Call, JumpCompare, truth, bytes, Emitted, stores, bit, kept, kept_bytes, two_ops, leaf, then_code, operator_of, test_of, equal_test, either_ops, either_bytes, if_else_code, Several, texts, values, in_turn, whole, kind_code, core_code, code_of}
+use Rattle.stack_code.specs.Emission.{declared_ops, declared_goes}
+use Rattle.stack_code.specs.Code.{Operation, PushInt, Compute, Negate, Call, JumpCompare, truth, bytes, Emitted, loads, stores, bit, kept, kept_bytes, two_ops, leaf, then_code, operator_of, test_of, equal_test, either_ops, either_bytes, if_else_code, Several, texts, values, in_turn, whole, kind_code, core_code, code_of}
 use Rattle.stack_code.proofs.Runs.{kept_size, Sized, Acts, acts_none}
 use Rattle.stack_code.proofs.Lists.{bytes_append}
 use Rattle.stack_code.proofs.Single.{int_follows, text_follows, read_follows, unset_follows}
@@ -124,6 +125,12 @@ pub coded : (e : Core) (k : Kind) (x : Kind-F Kind Core) → e.kind ≡ k → ou
 coded e k x h o =
     opened e ∙ ap (λ k. kind_code (map-Kind Kind Core Coded Emitted code_of_kind code_of (out-Kind k)) e.ty) h ∙ ap (λ x. kind_code (map-Kind Kind Core Coded Emitted code_of_kind code_of x) e.ty) o
 
+pub truth_of : (e : Core) (b : Bool) → out-Kind e.kind ≡ Kind-F.BoolLit b → (code_of e).code ≡ PushInt (bit b) ∷ []
+truth_of e b h = ap (λ (x : Emitted). x.code) (coded e e.kind (Kind-F.BoolLit b) refl h)
+
+pub read_code : (e : Core) (x : ℕ) → out-Kind e.kind ≡ Kind-F.LocalRead x → (code_of e).code ≡ loads e.ty x
+read_code e x h = ap (λ (x : Emitted). x.code) (coded e e.kind (Kind-F.LocalRead x) refl h)
+
 pub binary_code : (e : Core) (op : BinaryOp) (a b : Core) → e.kind ≡ made-NumBinary op a b → (code_of e).code ≡ two_ops (code_of a) (code_of b) (Compute (operator_of op) ∷ [])
 binary_code e op a b h = ap (λ (x : Emitted). x.code) (coded e (made-NumBinary op a b) _ h (outs-NumBinary op a b))
 
@@ -180,6 +187,15 @@ kind_type (Kind-F.While label c a) ty = refl
 -- a node's code leaves a value of the node's type
 pub type_of_code : (e : Core) → (code_of e).ty ≡ e.ty
 type_of_code e = ap (λ (x : Emitted). x.ty) (opened e) ∙ kind_type (map-Kind Kind Core Coded Emitted code_of_kind code_of (out-Kind e.kind)) e.ty
+
+-- the code of a declaration, which may have a value
+pub declared_code : (e : Core) (x : ℕ) (o : Option Core) → out-Kind e.kind ≡ Kind-F.Declare x o → (code_of e).code ≡ declared_ops x o
+declared_code e x None h = ap (λ (x : Emitted). x.code) (coded e e.kind (Kind-F.Declare x None) refl h)
+declared_code e x (Some v) h = ap (λ (x : Emitted). x.code) (coded e e.kind (Kind-F.Declare x (Some v)) refl h) ∙ ap (λ ty. (code_of v).code ++ kept (code_of v).goes_on (stores ty x)) (type_of_code v)
+
+pub declared_on : (e : Core) (x : ℕ) (o : Option Core) → out-Kind e.kind ≡ Kind-F.Declare x o → (code_of e).goes_on ≡ declared_goes o
+declared_on e x None h = ap (λ (x : Emitted). x.goes_on) (coded e e.kind (Kind-F.Declare x None) refl h)
+declared_on e x (Some v) h = ap (λ (x : Emitted). x.goes_on) (coded e e.kind (Kind-F.Declare x (Some v)) refl h)
 
 nat_not_less : (m n : ℕ) → nat_le n m ≡ not (nat_lt m n)
 nat_not_less m n = by_both (nat_lt m n) (nat_le n m) refl refl

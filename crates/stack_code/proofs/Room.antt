@@ -23,7 +23,7 @@ pub record Fits (x : Emitted) (r : Room) : Type 0 where
   pub value : x.size ≤ r.value
   pub branch : (w : Bool) → x.test_size w ≤ r.branch
 
-kept_few : (g : Bool) (n : ℕ) → kept_bytes g n ≤ n
+pub kept_few : (g : Bool) (n : ℕ) → kept_bytes g n ≤ n
 kept_few true n = omega arith
 kept_few false n = omega arith
 
@@ -54,7 +54,7 @@ stores_few type_is.Boolean x = let l = local_few x in omega (arith, l)
 stores_few type_is.String x = let l = local_few x in omega (arith, l)
 stores_few type_is.Unit x = omega arith
 
-discards_few : (ty : TypeTree) → bytes (discards ty) ≤ 1
+pub discards_few : (ty : TypeTree) → bytes (discards ty) ≤ 1
 discards_few type_is.Int = omega arith
 discards_few type_is.Boolean = omega arith
 discards_few type_is.String = omega arith
@@ -93,7 +93,7 @@ short_few d a b r s fa fb w =
     let v = fb.branch w in
     omega (arith, k, u, v)
 
-condition_few : (c : Emitted) (r : Room) → Fits c r → condition_size c ≤ r.branch
+pub condition_few : (c : Emitted) (r : Room) → Fits c r → condition_size c ≤ r.branch
 condition_few c r f = by c.always (f.branch false)
   where
     by : (t : Bool) → c.test_size false ≤ r.branch → (if t then 0 else c.test_size false) ≤ r.branch

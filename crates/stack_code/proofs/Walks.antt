@@ -1,9 +1,10 @@
 -- A walk over a tree: what it knows, and what it passes step by step.
-use Rattle.std.proofs.Common.{append-nil, append_assoc, length-drop, ◌≡◌, ℕ, zero, suc, ◌+◌, ◌-◌, ◌<◌, List, [], ◌∷◌, ◌++◌, length, map, drop, take, reverse, get_or, Bool, false, refl, sym, ap, ◌∙◌, arith}
-use Rattle.std.specs.Prelude.{◌&&◌}
-use Rattle.std.proofs.lemmas.List.{take-append-drop, drop_at, drop-map, drop_more, reverse-reverse, length-map, length-reverse, reverse-append, map_push}
+use Rattle.std.proofs.Common.{append-nil, append_assoc, length-drop, ◌≡◌, ℕ, zero, suc, ◌+◌, ◌-◌, ◌<◌, List, [], ◌∷◌, ◌++◌, length, map, drop, take, reverse, get_or, Bool, true, false, refl, sym, ap, ◌∙◌, arith}
+use Rattle.std.specs.Prelude.{◌&&◌, ◌≤◌, nat_eq, cond, slice_set}
+use Rattle.std.proofs.lemmas.Bool.{eqb-true, eqb-false}
+use Rattle.std.proofs.lemmas.List.{get_or-set_same, get_or-set_other, take-append-drop, drop_at, drop-map, drop_more, reverse-reverse, length-map, length-reverse, reverse-append, map_push}
 use std.Path.{fun_ext}
-use Rattle.kc_core.specs.Formed.{Assigned}
+use Rattle.kc_core.specs.Formed.{Assigned, marked}
 use Rattle.class_file.specs.declared.class.VType.{VType}
 use Rattle.stack_code.specs.declared.frames.Operand.{Operand}
 use Rattle.stack_code.specs.Frames.{both}
@@ -62,3 +63,39 @@ met_is flags b = fun_ext (λ x. met_at flags 0 b x ∙ ap (λ m. get_or flags x 
 
 pub met_both : (flags one : List Bool) (b : Assigned) → flags ≡ met one 0 b → set_of flags ≡ both (set_of one) b
 met_both flags one b e = ap set_of e ∙ met_is one b
+
+-- a flag that is not set says what a missing one says
+pub unset_behind : (flags : List Bool) → set_of (flags ++ false ∷ []) ≡ set_of flags
+unset_behind flags = fun_ext (go flags)
+  where
+    go : (flags : List Bool) (x : ℕ) → get_or (flags ++ false ∷ []) x false ≡ get_or flags x false
+    go [] zero = refl
+    go [] (suc x) = refl
+    go (f ∷ flags) zero = refl
+    go (f ∷ flags) (suc x) = go flags x
+
+marked_at : (flags : List Bool) (at : ℕ) (a : Assigned) (new : List Bool) → set_of flags ≡ a → set_of new at ≡ true → ((x : ℕ) → (x ≡ at → ⊥) → set_of new x ≡ set_of flags x) → set_of new ≡ marked at true a
+marked_at flags at a new is there others = fun_ext (λ x. by_place x (nat_eq x at) refl)
+  where
+    by_place : (x : ℕ) (b : Bool) → nat_eq x at ≡ b → set_of new x ≡ cond (nat_eq x at) true (a x)
+    by_place x true e = ap (set_of new) (eqb-true x at e) ∙ there ∙ sym (ap (λ b. cond b true (a x)) e)
+    by_place x false e = others x (eqb-false x at e) ∙ ap (λ f. f x) is ∙ sym (ap (λ b. cond b true (a x)) e)
+
+-- a flag among the others is set
+pub set_within : (flags : List Bool) (at : ℕ) (a : Assigned) → set_of flags ≡ a → at < length flags → set_of (slice_set flags at true) ≡ marked at true a
+set_within flags at a is lt = marked_at flags at a (slice_set flags at true) is (get_or-set_same flags at true false lt) (λ x n. get_or-set_other flags at x true false n)
+
+-- a flag behind the others is set
+pub set_behind : (flags : List Bool) (at : ℕ) (a : Assigned) → set_of flags ≡ a → at ≤ length flags → length flags ≤ at → set_of (flags ++ true ∷ []) ≡ marked at true a
+set_behind flags at a is le ge =
+    marked_at flags at a (flags ++ true ∷ []) is (ap (set_of (flags ++ true ∷ [])) (let e : at ≡ length flags = omega (arith, le, ge) in e) ∙ there flags) (λ x n. elsewhere flags x (λ e. n (omega (arith, e, le, ge))))
+  where
+    there : (flags : List Bool) → get_or (flags ++ true ∷ []) (length flags) false ≡ true
+    there [] = refl
+    there (f ∷ flags) = there flags
+
+    elsewhere : (flags : List Bool) (x : ℕ) → (x ≡ length flags → ⊥) → get_or (flags ++ true ∷ []) x false ≡ get_or flags x false
+    elsewhere [] zero h = absurd (h refl)
+    elsewhere [] (suc x) h = refl
+    elsewhere (f ∷ flags) zero h = refl
+    elsewhere (f ∷ flags) (suc x) h = elsewhere flags x (λ e. h (ap suc e))

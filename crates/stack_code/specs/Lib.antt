@@ -6,3 +6,4 @@ pub mod Emission
 pub mod Frames
 pub mod Room
 pub mod Walking
+pub mod Small

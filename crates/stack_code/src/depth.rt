@@ -3,14 +3,13 @@
 ghost use Rattle.std.specs.Prelude.{◌≡◌, ◌+◌, max, map, IfOk};
 ghost use Rattle.stack_code.specs.Depth.{most, piled, depth_of};
 
-use crate::constants::TooLarge;
 use crate::measures::plus;
 use kc_core::tree::{Core, Kind};
-use kc_text::Fail;
+use kc_text::Memory;
 
 // The operands of two nodes, of which the second stands above the value of the first.
 #[cycle(depth)]
-fn depth_above(left: &Core, right: &Core) -> Result<u32, Fail<TooLarge>>
+fn depth_above(left: &Core, right: &Core) -> Result<usize, Memory>
     ensures { IfOk result (λ n. n ≡ max (depth_of left.now) (depth_of right.now + 1)) }
 {
     let below = depth_of(left)?;
@@ -20,7 +19,7 @@ fn depth_above(left: &Core, right: &Core) -> Result<u32, Fail<TooLarge>>
 
 // The operands of two nodes, of which none stands above the value of the other.
 #[cycle(depth)]
-fn depth_either(left: &Core, right: &Core) -> Result<u32, Fail<TooLarge>>
+fn depth_either(left: &Core, right: &Core) -> Result<usize, Memory>
     ensures { IfOk result (λ n. n ≡ max (depth_of left.now) (depth_of right.now)) }
 {
     let first = depth_of(left)?;
@@ -30,7 +29,7 @@ fn depth_either(left: &Core, right: &Core) -> Result<u32, Fail<TooLarge>>
 
 // The operands of a choice between two nodes.
 #[cycle(depth)]
-fn depth_choice(test: &Core, held: &Core, failed: &Core) -> Result<u32, Fail<TooLarge>>
+fn depth_choice(test: &Core, held: &Core, failed: &Core) -> Result<usize, Memory>
     ensures { IfOk result (λ n. n ≡ max (depth_of test.now) (max (depth_of held.now) (depth_of failed.now))) }
 {
     let condition = depth_of(test)?;
@@ -40,10 +39,10 @@ fn depth_choice(test: &Core, held: &Core, failed: &Core) -> Result<u32, Fail<Too
 
 // The most operands of some nodes, each of which stands alone, and at least 1.
 #[cycle(depth)]
-fn depth_of_each(parts: &[Core]) -> Result<u32, Fail<TooLarge>>
+fn depth_of_each(parts: &[Core]) -> Result<usize, Memory>
     ensures { IfOk result (λ n. n ≡ most (map depth_of parts.now)) }
 {
-    let mut highest: u32 = 0;
+    let mut highest: usize = 0;
     for part in parts {
         let one = depth_of(part)?;
         highest = highest.max(one);
@@ -53,11 +52,11 @@ fn depth_of_each(parts: &[Core]) -> Result<u32, Fail<TooLarge>>
 
 // The most operands of some nodes, each of which stands above the values of those before it, and at least 1.
 #[cycle(depth)]
-fn depth_piled(arguments: &[Core]) -> Result<u32, Fail<TooLarge>>
+fn depth_piled(arguments: &[Core]) -> Result<usize, Memory>
     ensures { IfOk result (λ n. n ≡ max (piled (map depth_of arguments.now)) 1) }
 {
-    let mut highest: u32 = 0;
-    let mut below: u32 = 0;
+    let mut highest: usize = 0;
+    let mut below: usize = 0;
     for value in arguments {
         let one = plus(below, depth_of(value)?)?;
         highest = highest.max(one);
@@ -67,10 +66,8 @@ fn depth_piled(arguments: &[Core]) -> Result<u32, Fail<TooLarge>>
 }
 
 /// The most operands that stand on the stack at once while a node is evaluated, and at least 1. The time is linear in the node.
-///
-/// It is `TooLarge` where 32 bits do not hold the number.
 #[cycle(depth)]
-pub fn depth_of(node: &Core) -> Result<u32, Fail<TooLarge>>
+pub fn depth_of(node: &Core) -> Result<usize, Memory>
     ensures { IfOk result (λ n. n ≡ depth_of node.now) }
 {
     match &node.kind {

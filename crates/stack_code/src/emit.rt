@@ -3,22 +3,22 @@
 ghost use Rattle.std.specs.Prelude.{◌≡◌, ◌+◌, ◌++◌, ◌∷◌, ◌&&◌, ◌||◌, [], map, not, false, if◌then◌else◌, IfOk, OnOk};
 ghost use Rattle.stack_code.specs.Code.{code_of, kept, two_ops, Compute, Negate, Call, JumpIf, JumpCompare, operator_of, truth_test, truth, bytes, decided, discards, condition, condition_size, either_ops, body_size, returns, texts, values, in_turn, stores};
 ghost use Rattle.class_file.specs.Pools.{Slots};
-ghost use Rattle.stack_code.specs.Emission.{Emits};
+ghost use Rattle.stack_code.specs.Emission.{Emits, declared_goes, declared_ops};
 ghost use Rattle.stack_code.specs.declared.constants.Helper.TheVariants as helper;
 
-use crate::constants::{Helper, TooLarge};
+use crate::constants::Helper;
 use crate::measures::{
     body_length, condition_length, discard_size, is_true, measure_of, over_length, plus,
 };
 use crate::operations::{
-    between, call, compute, discard, equal_test, join, jump, jump_back, jump_compare, jump_if,
-    load, negate, push_bool, push_int, push_text, push_truth, store, test_of,
+    CodeBuffer, between, call, compute, discard, equal_test, join, jump, jump_back, jump_compare,
+    jump_if, load, negate, push_bool, push_int, push_text, push_truth, store, test_of,
 };
-use class_file::instr::Instr;
 use class_file::pool::Pool;
 use class_file::row::Test;
 use kc_core::tree::{BinaryOp, Core, Kind, Native, UnaryOp};
-use kc_text::{Fail, Text};
+use kc_text::{Memory, Text};
+use sqlite_items::Boxed;
 use std::alloc::Global;
 
 // A child's code, and what takes its value.
@@ -26,12 +26,12 @@ use std::alloc::Global;
 fn emit_stored(
     alloc: Global,
     pool: &mut Pool,
-    code: &mut Vec<Instr>,
+    code: &mut CodeBuffer,
     local: usize,
     value: &Core,
-) -> Result<bool, Fail<TooLarge>>
+) -> Result<bool, Memory>
     ensures goes { IfOk result (λ goes. goes ≡ (code_of value.now).goes_on) }
-    ensures emits { OnOk result (Emits code.old.items code.new.items pool.old pool.new ((code_of value.now).code ++ kept (code_of value.now).goes_on (stores value.now.ty local))) }
+    ensures emits { OnOk result (Emits code.old code.new pool.old pool.new ((code_of value.now).code ++ kept (code_of value.now).goes_on (stores value.now.ty local))) }
 {
     let goes = emit(alloc, pool, code, value)?;
     if goes {
@@ -40,15 +40,36 @@ fn emit_stored(
     Ok(goes)
 }
 
+// A declaration, which may have a value.
+#[cycle(emit)]
+fn emit_declared(
+    alloc: Global,
+    pool: &mut Pool,
+    code: &mut CodeBuffer,
+    local: usize,
+    value: &Option<Boxed<Core>>,
+) -> Result<bool, Memory>
+    ensures goes { IfOk result (λ goes. goes ≡ declared_goes value.now) }
+    ensures emits { OnOk result (Emits code.old code.new pool.old pool.new (declared_ops local value.now)) }
+{
+    match value {
+        None => Ok(true),
+        Some(value) => {
+            let goes = emit_stored(alloc, pool, code, local, value.get())?;
+            Ok(goes)
+        }
+    }
+}
+
 #[cycle(emit)]
 fn emit_negate(
     alloc: Global,
     pool: &mut Pool,
-    code: &mut Vec<Instr>,
+    code: &mut CodeBuffer,
     value: &Core,
-) -> Result<bool, Fail<TooLarge>>
+) -> Result<bool, Memory>
     ensures goes { IfOk result (λ goes. goes ≡ (code_of value.now).goes_on) }
-    ensures emits { OnOk result (Emits code.old.items code.new.items pool.old pool.new ((code_of value.now).code ++ kept (code_of value.now).goes_on (Negate ∷ []))) }
+    ensures emits { OnOk result (Emits code.old code.new pool.old pool.new ((code_of value.now).code ++ kept (code_of value.now).goes_on (Negate ∷ []))) }
 {
     let goes = emit(alloc, pool, code, value)?;
     if goes {
@@ -62,11 +83,11 @@ fn emit_negate(
 fn emit_texts(
     alloc: Global,
     pool: &mut Pool,
-    code: &mut Vec<Instr>,
+    code: &mut CodeBuffer,
     parts: &[Core],
-) -> Result<bool, Fail<TooLarge>>
+) -> Result<bool, Memory>
     ensures goes { IfOk result (λ goes. goes ≡ (texts (map code_of parts.now)).goes_on) }
-    ensures emits { OnOk result (Emits code.old.items code.new.items pool.old pool.new (texts (map code_of parts.now)).code) }
+    ensures emits { OnOk result (Emits code.old code.new pool.old pool.new (texts (map code_of parts.now)).code) }
 {
     if parts.is_empty() {
         let empty = Text::new(alloc);
@@ -86,11 +107,11 @@ fn emit_texts(
 fn emit_values(
     alloc: Global,
     pool: &mut Pool,
-    code: &mut Vec<Instr>,
+    code: &mut CodeBuffer,
     arguments: &[Core],
-) -> Result<bool, Fail<TooLarge>>
+) -> Result<bool, Memory>
     ensures goes { IfOk result (λ goes. goes ≡ (values (map code_of arguments.now)).goes_on) }
-    ensures emits { OnOk result (Emits code.old.items code.new.items pool.old pool.new (values (map code_of arguments.now)).code) }
+    ensures emits { OnOk result (Emits code.old code.new pool.old pool.new (values (map code_of arguments.now)).code) }
 {
     for value in arguments {
         if !emit(alloc, pool, code, value)? {
@@ -105,11 +126,11 @@ fn emit_values(
 fn emit_in_turn(
     alloc: Global,
     pool: &mut Pool,
-    code: &mut Vec<Instr>,
+    code: &mut CodeBuffer,
     parts: &[Core],
-) -> Result<bool, Fail<TooLarge>>
+) -> Result<bool, Memory>
     ensures goes { IfOk result (λ goes. goes ≡ (in_turn (map code_of parts.now)).goes_on) }
-    ensures emits { OnOk result (Emits code.old.items code.new.items pool.old pool.new (in_turn (map code_of parts.now)).code) }
+    ensures emits { OnOk result (Emits code.old code.new pool.old pool.new (in_turn (map code_of parts.now)).code) }
 {
     for (i, part) in parts.iter().enumerate() {
         if !emit(alloc, pool, code, part)? {
@@ -124,11 +145,11 @@ fn emit_in_turn(
 fn emit_native(
     alloc: Global,
     pool: &mut Pool,
-    code: &mut Vec<Instr>,
+    code: &mut CodeBuffer,
     arguments: &[Core],
-) -> Result<bool, Fail<TooLarge>>
+) -> Result<bool, Memory>
     ensures goes { IfOk result (λ goes. goes ≡ (values (map code_of arguments.now)).goes_on) }
-    ensures emits { OnOk result (Emits code.old.items code.new.items pool.old pool.new ((values (map code_of arguments.now)).code ++ kept (values (map code_of arguments.now)).goes_on (Call helper.ConsoleWrite ∷ []))) }
+    ensures emits { OnOk result (Emits code.old code.new pool.old pool.new ((values (map code_of arguments.now)).code ++ kept (values (map code_of arguments.now)).goes_on (Call helper.ConsoleWrite ∷ []))) }
 {
     let goes = emit_values(alloc, pool, code, arguments)?;
     if goes {
@@ -142,12 +163,12 @@ fn emit_native(
 fn emit_two(
     alloc: Global,
     pool: &mut Pool,
-    code: &mut Vec<Instr>,
+    code: &mut CodeBuffer,
     left: &Core,
     right: &Core,
-) -> Result<bool, Fail<TooLarge>>
+) -> Result<bool, Memory>
     ensures goes { IfOk result (λ goes. goes ≡ ((code_of left.now).goes_on && (code_of right.now).goes_on)) }
-    ensures emits { OnOk result (Emits code.old.items code.new.items pool.old pool.new ((code_of left.now).code ++ kept (code_of left.now).goes_on (code_of right.now).code)) }
+    ensures emits { OnOk result (Emits code.old code.new pool.old pool.new ((code_of left.now).code ++ kept (code_of left.now).goes_on (code_of right.now).code)) }
 {
     if !emit(alloc, pool, code, left)? {
         return Ok(false);
@@ -160,13 +181,13 @@ fn emit_two(
 fn emit_binary(
     alloc: Global,
     pool: &mut Pool,
-    code: &mut Vec<Instr>,
+    code: &mut CodeBuffer,
     op: BinaryOp,
     left: &Core,
     right: &Core,
-) -> Result<bool, Fail<TooLarge>>
+) -> Result<bool, Memory>
     ensures goes { IfOk result (λ goes. goes ≡ ((code_of left.now).goes_on && (code_of right.now).goes_on)) }
-    ensures emits { OnOk result (Emits code.old.items code.new.items pool.old pool.new (two_ops (code_of left.now) (code_of right.now) (Compute (operator_of op) ∷ []))) }
+    ensures emits { OnOk result (Emits code.old code.new pool.old pool.new (two_ops (code_of left.now) (code_of right.now) (Compute (operator_of op) ∷ []))) }
 {
     let goes = emit_two(alloc, pool, code, left, right)?;
     if goes {
@@ -180,14 +201,14 @@ fn emit_binary(
 fn emit_compared(
     alloc: Global,
     pool: &mut Pool,
-    code: &mut Vec<Instr>,
+    code: &mut CodeBuffer,
     left: &Core,
     right: &Core,
     test: Test,
-    beyond: u32,
-) -> Result<bool, Fail<TooLarge>>
+    beyond: usize,
+) -> Result<bool, Memory>
     ensures goes { IfOk result (λ goes. goes ≡ ((code_of left.now).goes_on && (code_of right.now).goes_on)) }
-    ensures emits { OnOk result (Emits code.old.items code.new.items pool.old pool.new (two_ops (code_of left.now) (code_of right.now) (JumpCompare test (beyond + 3) ∷ []))) }
+    ensures emits { OnOk result (Emits code.old code.new pool.old pool.new (two_ops (code_of left.now) (code_of right.now) (JumpCompare test (beyond + 3) ∷ []))) }
 {
     let goes = emit_two(alloc, pool, code, left, right)?;
     if goes {
@@ -197,7 +218,7 @@ fn emit_compared(
 }
 
 // Where the side that decides has the value that is tested, it goes on behind the whole.
-fn beyond_whole(decisive: bool, when: bool, beyond: u32) -> u32
+fn beyond_whole(decisive: bool, when: bool, beyond: usize) -> usize
     ensures { result ≡ decided decisive when beyond }
 {
     match (decisive, when) {
@@ -211,15 +232,15 @@ fn beyond_whole(decisive: bool, when: bool, beyond: u32) -> u32
 fn emit_short(
     alloc: Global,
     pool: &mut Pool,
-    code: &mut Vec<Instr>,
+    code: &mut CodeBuffer,
     decisive: bool,
     left: &Core,
     right: &Core,
     when: bool,
-    beyond: u32,
-) -> Result<bool, Fail<TooLarge>>
+    beyond: usize,
+) -> Result<bool, Memory>
     ensures goes { IfOk result (λ goes. goes ≡ (code_of left.now).goes_on) }
-    ensures emits { OnOk result (Emits code.old.items code.new.items pool.old pool.new ((code_of left.now).test decisive ((code_of right.now).test_size when + decided decisive when beyond) ++ kept (code_of left.now).goes_on ((code_of right.now).test when beyond))) }
+    ensures emits { OnOk result (Emits code.old code.new pool.old pool.new ((code_of left.now).test decisive ((code_of right.now).test_size when + decided decisive when beyond) ++ kept (code_of left.now).goes_on ((code_of right.now).test when beyond))) }
 {
     let over = plus(
         measure_of(right)?.when(when),
@@ -236,13 +257,13 @@ fn emit_short(
 fn emit_plain_test(
     alloc: Global,
     pool: &mut Pool,
-    code: &mut Vec<Instr>,
+    code: &mut CodeBuffer,
     node: &Core,
     when: bool,
-    beyond: u32,
-) -> Result<bool, Fail<TooLarge>>
+    beyond: usize,
+) -> Result<bool, Memory>
     ensures goes { IfOk result (λ goes. goes ≡ (code_of node.now).goes_on) }
-    ensures emits { OnOk result (Emits code.old.items code.new.items pool.old pool.new ((code_of node.now).code ++ kept (code_of node.now).goes_on (JumpIf (truth_test when) (beyond + 3) ∷ []))) }
+    ensures emits { OnOk result (Emits code.old code.new pool.old pool.new ((code_of node.now).code ++ kept (code_of node.now).goes_on (JumpIf (truth_test when) (beyond + 3) ∷ []))) }
 {
     let goes = emit(alloc, pool, code, node)?;
     if goes {
@@ -256,12 +277,12 @@ fn emit_plain_test(
 fn emit_condition(
     alloc: Global,
     pool: &mut Pool,
-    code: &mut Vec<Instr>,
+    code: &mut CodeBuffer,
     test: &Core,
-    beyond: u32,
-) -> Result<bool, Fail<TooLarge>>
+    beyond: usize,
+) -> Result<bool, Memory>
     ensures goes { IfOk result (λ goes. goes ≡ (code_of test.now).goes_on) }
-    ensures emits { OnOk result (Emits code.old.items code.new.items pool.old pool.new (condition (code_of test.now) beyond)) }
+    ensures emits { OnOk result (Emits code.old code.new pool.old pool.new (condition (code_of test.now) beyond)) }
 {
     if is_true(test) {
         return Ok(true);
@@ -274,12 +295,12 @@ fn emit_condition(
 fn emit_if(
     alloc: Global,
     pool: &mut Pool,
-    code: &mut Vec<Instr>,
+    code: &mut CodeBuffer,
     test: &Core,
     held: &Core,
-) -> Result<bool, Fail<TooLarge>>
+) -> Result<bool, Memory>
     ensures goes { IfOk result (λ goes. goes ≡ (if (code_of test.now).always then (code_of held.now).goes_on else (code_of test.now).goes_on)) }
-    ensures emits { OnOk result (Emits code.old.items code.new.items pool.old pool.new (condition (code_of test.now) (code_of held.now).size ++ kept (code_of test.now).goes_on (code_of held.now).code)) }
+    ensures emits { OnOk result (Emits code.old code.new pool.old pool.new (condition (code_of test.now) (code_of held.now).size ++ kept (code_of test.now).goes_on (code_of held.now).code)) }
 {
     let over = measure_of(held)?.value;
     if !emit_condition(alloc, pool, code, test, over)? {
@@ -294,13 +315,13 @@ fn emit_if(
 fn emit_either(
     alloc: Global,
     pool: &mut Pool,
-    code: &mut Vec<Instr>,
+    code: &mut CodeBuffer,
     test: &Core,
     held: &Core,
     failed: &Core,
-) -> Result<bool, Fail<TooLarge>>
+) -> Result<bool, Memory>
     ensures goes { IfOk result (λ goes. goes ≡ ((code_of test.now).goes_on && ((code_of held.now).goes_on || (code_of failed.now).goes_on))) }
-    ensures emits { OnOk result (Emits code.old.items code.new.items pool.old pool.new (either_ops (code_of test.now) (code_of held.now) (code_of failed.now))) }
+    ensures emits { OnOk result (Emits code.old code.new pool.old pool.new (either_ops (code_of test.now) (code_of held.now) (code_of failed.now))) }
 {
     let over_held = over_length(measure_of(held)?)?;
     if !emit_test(alloc, pool, code, test, false, over_held)? {
@@ -319,13 +340,13 @@ fn emit_either(
 fn emit_if_else(
     alloc: Global,
     pool: &mut Pool,
-    code: &mut Vec<Instr>,
+    code: &mut CodeBuffer,
     test: &Core,
     held: &Core,
     failed: &Core,
-) -> Result<bool, Fail<TooLarge>>
+) -> Result<bool, Memory>
     ensures goes { IfOk result (λ goes. goes ≡ (if (code_of test.now).always then (code_of held.now).goes_on else (code_of test.now).goes_on && ((code_of held.now).goes_on || (code_of failed.now).goes_on))) }
-    ensures emits { OnOk result (Emits code.old.items code.new.items pool.old pool.new (if (code_of test.now).always then (code_of held.now).code else either_ops (code_of test.now) (code_of held.now) (code_of failed.now))) }
+    ensures emits { OnOk result (Emits code.old code.new pool.old pool.new (if (code_of test.now).always then (code_of held.now).code else either_ops (code_of test.now) (code_of held.now) (code_of failed.now))) }
 {
     let goes = if is_true(test) {
         emit(alloc, pool, code, held)?
@@ -339,12 +360,12 @@ fn emit_if_else(
 fn emit_while(
     alloc: Global,
     pool: &mut Pool,
-    code: &mut Vec<Instr>,
+    code: &mut CodeBuffer,
     test: &Core,
     body: &Core,
-) -> Result<bool, Fail<TooLarge>>
+) -> Result<bool, Memory>
     ensures goes { IfOk result (λ goes. goes ≡ ((code_of test.now).goes_on && not (code_of test.now).always)) }
-    ensures emits { OnOk result (Emits code.old.items code.new.items pool.old pool.new (condition (code_of test.now) (body_size (code_of body.now)) ++ kept (code_of test.now).goes_on ((code_of body.now).code ++ returns (code_of body.now) (condition_size (code_of test.now) + (code_of body.now).size + bytes (discards (code_of body.now).ty))))) }
+    ensures emits { OnOk result (Emits code.old code.new pool.old pool.new (condition (code_of test.now) (body_size (code_of body.now)) ++ kept (code_of test.now).goes_on ((code_of body.now).code ++ returns (code_of body.now) (condition_size (code_of test.now) + (code_of body.now).size + bytes (discards (code_of body.now).ty))))) }
 {
     let turn = measure_of(body)?;
     let whole = plus(
@@ -363,9 +384,9 @@ fn emit_while(
 }
 
 // The value of what a test comes to.
-fn truth_behind(code: &mut Vec<Instr>, goes: bool) -> Result<bool, Fail<TooLarge>>
+fn truth_behind(code: &mut CodeBuffer, goes: bool) -> Result<bool, Memory>
     ensures goes { IfOk result (λ g. g ≡ goes) }
-    ensures emits { OnOk result ((pool : Slots) → Emits code.old.items code.new.items pool pool (kept goes truth)) }
+    ensures emits { OnOk result ((pool : Slots) → Emits code.old code.new pool pool (kept goes truth)) }
 {
     if goes {
         push_truth(code)?;
@@ -380,13 +401,13 @@ fn truth_behind(code: &mut Vec<Instr>, goes: bool) -> Result<bool, Fail<TooLarge
 pub fn emit_test(
     alloc: Global,
     pool: &mut Pool,
-    code: &mut Vec<Instr>,
+    code: &mut CodeBuffer,
     node: &Core,
     when: bool,
-    beyond: u32,
-) -> Result<bool, Fail<TooLarge>>
+    beyond: usize,
+) -> Result<bool, Memory>
     ensures goes { IfOk result (λ goes. goes ≡ (code_of node.now).goes_on) }
-    ensures emits { OnOk result (Emits code.old.items code.new.items pool.old pool.new ((code_of node.now).test when beyond)) }
+    ensures emits { OnOk result (Emits code.old code.new pool.old pool.new ((code_of node.now).test when beyond)) }
 {
     match &node.kind {
         Kind::NumCompare { order, left, right } => emit_compared(
@@ -450,11 +471,11 @@ pub fn emit_test(
 pub fn emit(
     alloc: Global,
     pool: &mut Pool,
-    code: &mut Vec<Instr>,
+    code: &mut CodeBuffer,
     node: &Core,
-) -> Result<bool, Fail<TooLarge>>
+) -> Result<bool, Memory>
     ensures goes { IfOk result (λ goes. goes ≡ (code_of node.now).goes_on) }
-    ensures emits { OnOk result (Emits code.old.items code.new.items pool.old pool.new (code_of node.now).code) }
+    ensures emits { OnOk result (Emits code.old code.new pool.old pool.new (code_of node.now).code) }
 {
     match &node.kind {
         Kind::IntLit(n) => {
@@ -474,14 +495,7 @@ pub fn emit(
             Ok(true)
         }
         Kind::LocalWrite { local, value } => emit_stored(alloc, pool, code, *local, value.get()),
-        Kind::Declare {
-            local: _,
-            value: None,
-        } => Ok(true),
-        Kind::Declare {
-            local,
-            value: Some(value),
-        } => emit_stored(alloc, pool, code, *local, value.get()),
+        Kind::Declare { local, value } => emit_declared(alloc, pool, code, *local, value),
         Kind::NumBinary { op, left, right } => {
             emit_binary(alloc, pool, code, *op, left.get(), right.get())
         }

@@ -1,6 +1,6 @@
 //! The frames of a function's method: what is known where a jump leads, and behind code that does not go on.
 
-ghost use Rattle.std.specs.Prelude.{◌≡◌, ◌<◌, ◌+◌, ◌-◌, ◌++◌, ◌∷◌, ◌&&◌, ◌||◌, [], map, not, true, false, if◌then◌else◌, IfOk, OnOk, get_or, length, drop};
+ghost use Rattle.std.specs.Prelude.{◌≡◌, ◌≤◌, ◌+◌, ◌-◌, ◌++◌, ◌∷◌, ◌&&◌, ◌||◌, [], map, not, true, false, if◌then◌else◌, IfOk, OnOk, get_or, length, drop};
 ghost use Rattle.kc_core.specs.Formed.{marked};
 ghost use Rattle.class_file.specs.Typing.{same};
 ghost use Rattle.stack_code.specs.Code.{Operation, bytes_of, kept, stores, loads, discards, to_text, truth};
@@ -8,11 +8,11 @@ ghost use Rattle.stack_code.specs.Emission.{after_part, after_text};
 ghost use Rattle.stack_code.specs.Frames.{traced_of, local_type, frame_at, frames_from, local_types, in_line, behind_line, behind, kept_known, both, meeting, with_assigned, with_value, value_types, truth_known, held, condition_known};
 ghost use Rattle.stack_code.specs.Walking.{operand_type, set_of, met, known_of, Moves, Walks, WalksOne, PassesTruth, joined, Does, DoesOne, DoesTwo, DoesCompared, DoesLine, Tests, TestsPlain, DoesKind, TestsKind, write_layer, minus_layer, binary_layer, short_layer, texts_layer, native_layer, block_layer, if_layer, if_else_layer, while_layer};
 
-use crate::constants::{TooLarge, ascii};
-use crate::measures::local_size;
+use crate::constants::ascii;
+use crate::measures::{local_size, plus};
 use class_file::class::{Frame, VType};
 use kc_core::tree::{Local, TypeTree};
-use kc_text::{Fail, Memory};
+use kc_text::Memory;
 use shared_list::SharedList;
 use sqlite_items::Items;
 use std::alloc::Global;
@@ -25,7 +25,7 @@ pub enum Operand {
     Text,
 }
 
-/// A place of a method's code in bytes, what is known there, and the frames before it. `assigned` has a flag for each local; the
+/// A place of a method's code in bytes, what is known there, and the frames before it. `assigned` has a flag for each local at least; the
 /// top of the stack is last.
 #[derive(Drop)]
 pub struct Walk {
@@ -148,18 +148,13 @@ fn frame_entry(
     Ok(())
 }
 
-fn advance(walk: &mut Walk, bytes: u32) -> Result<(), Fail<TooLarge>>
+fn advance(walk: &mut Walk, bytes: usize) -> Result<(), Memory>
     ensures at { OnOk result (walk.new.at ≡ walk.old.at + bytes) }
     ensures known { OnOk result (known_of walk.new ≡ known_of walk.old) }
     ensures frames { OnOk result (walk.new.frames.items ≡ walk.old.frames.items) }
 {
-    match walk.at.checked_add(bytes as usize) {
-        Some(at) => {
-            walk.at = at;
-            Ok(())
-        }
-        None => Err(Fail::Found(TooLarge)),
-    }
+    walk.at = plus(walk.at, bytes)?;
+    Ok(())
 }
 
 /// One operation of so many bytes.
@@ -170,8 +165,8 @@ pub fn pass(
     entries: &[bool],
     walk: &mut Walk,
     live: bool,
-    bytes: u32,
-) -> Result<(), Fail<TooLarge>>
+    bytes: usize,
+) -> Result<(), Memory>
     ensures { OnOk result (WalksOne locals.now (set_of entries.now) live walk.old walk.new bytes) }
 {
     if live {
@@ -220,17 +215,37 @@ pub fn restore(walk: &mut Walk, height: usize)
     walk.stack.truncate(height);
 }
 
+// Flags for at least so many places.
+#[tactic(auto, using(crate::proofs::Walks::unset_behind))]
+fn widen(flags: &mut Vec<bool>, count: usize) -> Result<(), Memory>
+    ensures same { OnOk result (set_of flags.new.items ≡ set_of flags.old.items) }
+    ensures long { OnOk result (count ≤ length flags.new.items) }
+{
+    for _ in flags.len()..count {
+        flags.push(false)?;
+    }
+    Ok(())
+}
+
+// Sets the flag of a place.
+#[tactic(auto, using(crate::proofs::Walks::set_within, crate::proofs::Walks::set_behind))]
+fn set(flags: &mut Vec<bool>, at: usize) -> Result<(), Memory>
+    ensures { OnOk result (set_of flags.new.items ≡ marked at true (set_of flags.old.items)) }
+{
+    widen(flags, at)?;
+    if at < flags.len() {
+        flags[at] = true;
+    } else {
+        flags.push(true)?;
+    }
+    Ok(())
+}
+
 /// A local is assigned.
-pub fn assign(walk: &mut Walk, local: usize) -> Result<(), Fail<TooLarge>>
+pub fn assign(walk: &mut Walk, local: usize) -> Result<(), Memory>
     ensures { OnOk result (Moves walk.old walk.new (with_assigned (marked local true (known_of walk.old).assigned) (known_of walk.old))) }
 {
-    match walk.assigned.get_mut(local) {
-        Some(flag) => {
-            *flag = true;
-            Ok(())
-        }
-        None => Err(Fail::Found(TooLarge)),
-    }
+    set(&mut walk.assigned, local)
 }
 
 // The flags that are set in both.
@@ -323,7 +338,7 @@ pub fn pass_local(
     live: bool,
     ty: TypeTree,
     local: usize,
-) -> Result<(), Fail<TooLarge>>
+) -> Result<(), Memory>
     ensures loads { OnOk result (Walks locals.now (set_of entries.now) live walk.old walk.new (loads ty local) (in_line (loads ty local) (known_of walk.old)) (known_of walk.old)) }
     ensures stores { OnOk result (Walks locals.now (set_of entries.now) live walk.old walk.new (stores ty local) (in_line (stores ty local) (known_of walk.old)) (known_of walk.old)) }
 {
@@ -349,7 +364,7 @@ pub fn pass_discard(
     walk: &mut Walk,
     live: bool,
     ty: TypeTree,
-) -> Result<(), Fail<TooLarge>>
+) -> Result<(), Memory>
     ensures { OnOk result (Walks locals.now (set_of entries.now) live walk.old walk.new (discards ty) (in_line (discards ty) (known_of walk.old)) (known_of walk.old)) }
 {
     match ty {
@@ -369,7 +384,7 @@ pub fn pass_to_text(
     walk: &mut Walk,
     live: bool,
     ty: TypeTree,
-) -> Result<(), Fail<TooLarge>>
+) -> Result<(), Memory>
     ensures { OnOk result (Walks locals.now (set_of entries.now) live walk.old walk.new (to_text ty) (in_line (to_text ty) (known_of walk.old)) (known_of walk.old)) }
 {
     match ty {
@@ -387,7 +402,7 @@ fn pass_join(
     entries: &[bool],
     walk: &mut Walk,
     live: bool,
-) -> Result<(), Fail<TooLarge>>
+) -> Result<(), Memory>
     ensures { OnOk result (Walks locals.now (set_of entries.now) live walk.old walk.new (joined false) (in_line (joined false) (known_of walk.old)) (behind_line (joined false) (known_of walk.old))) }
 {
     pass(alloc, locals, entries, walk, live, 3)?;
@@ -405,7 +420,7 @@ pub fn join_behind(
     walk: &mut Walk,
     live: bool,
     first: bool,
-) -> Result<(), Fail<TooLarge>>
+) -> Result<(), Memory>
     ensures { OnOk result (Walks locals.now (set_of entries.now) live walk.old walk.new (joined first) (in_line (joined first) (known_of walk.old)) (behind_line (joined first) (known_of walk.old))) }
 {
     if first {
@@ -431,7 +446,7 @@ pub fn pass_truth(
     walk: &mut Walk,
     live: bool,
     jumped: Vec<bool>,
-) -> Result<(), Fail<TooLarge>>
+) -> Result<(), Memory>
     ensures { OnOk result (PassesTruth locals.now (set_of entries.now) live walk.old walk.new (set_of jumped.items)) }
 {
     pass(alloc, locals, entries, walk, live, 1)?;

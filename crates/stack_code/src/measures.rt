@@ -4,23 +4,22 @@ ghost use Rattle.std.specs.Prelude.{◌≡◌, ◌+◌, ◌&&◌, ◌||◌, map,
 ghost use Rattle.stack_code.specs.Code.{code_of, bytes, kept_bytes, two_bytes, int_bytes, loads, stores, discards, texts, values, in_turn, condition_size, either_bytes};
 ghost use Rattle.stack_code.specs.Emission.{IsMeasure, IsPlain, IsTesting, IsExtent, after_part, after_text};
 
-use crate::constants::TooLarge;
 use kc_core::tree::{Core, Kind, Native, TypeTree, UnaryOp};
-use kc_text::Fail;
+use kc_text::Memory;
 
 /// The lengths of a node's code in bytes: of the form that leaves its value, and of the two forms that test it. And whether the
 /// code can go on at its end.
 #[derive(Clone, Copy)]
 pub struct Measure {
-    pub value: u32,
-    pub when_true: u32,
-    pub when_false: u32,
+    pub value: usize,
+    pub when_true: usize,
+    pub when_false: usize,
     pub goes_on: bool,
 }
 
 impl Measure {
     /// The length of the form that goes on behind its end where the node's value is this one.
-    pub fn when(self, value: bool) -> u32
+    pub fn when(self, value: bool) -> usize
         ensures { result ≡ (if value then self.when_true else self.when_false) }
     {
         if value {
@@ -34,29 +33,30 @@ impl Measure {
 /// The length of code in bytes, and whether it can go on at its end.
 #[derive(Clone, Copy)]
 pub struct Extent {
-    pub length: u32,
+    pub length: usize,
     pub goes_on: bool,
 }
 
-/// The sum, where 32 bits hold it.
-pub fn plus(a: u32, b: u32) -> Result<u32, Fail<TooLarge>>
+/// The sum. A sum that is past all addresses is want of memory, as it is where a vector is to grow so far: no memory holds code of
+/// such a length, or so many operands.
+pub fn plus(a: usize, b: usize) -> Result<usize, Memory>
     ensures { IfOk result (λ n. n ≡ a + b) }
 {
     match a.checked_add(b) {
         Some(sum) => Ok(sum),
-        None => Err(Fail::Found(TooLarge)),
+        None => Err(Memory),
     }
 }
 
 /// The length of what stands behind code, which is nothing where that does not go on.
-pub fn kept(goes_on: bool, length: u32) -> u32
+pub fn kept(goes_on: bool, length: usize) -> usize
     ensures { result ≡ kept_bytes goes_on length }
 {
     if goes_on { length } else { 0 }
 }
 
 // Code that leaves its value: a test of it looks at the value.
-fn plain(value: u32, goes_on: bool) -> Result<Measure, Fail<TooLarge>>
+fn plain(value: usize, goes_on: bool) -> Result<Measure, Memory>
     ensures { IfOk result (λ m. IsPlain m value goes_on) }
 {
     let test = plus(value, kept(goes_on, 3))?;
@@ -69,7 +69,7 @@ fn plain(value: u32, goes_on: bool) -> Result<Measure, Fail<TooLarge>>
 }
 
 // Code that tests: its value is made of what the test comes to.
-fn testing(when_true: u32, when_false: u32, goes_on: bool) -> Result<Measure, Fail<TooLarge>>
+fn testing(when_true: usize, when_false: usize, goes_on: bool) -> Result<Measure, Memory>
     ensures { IfOk result (λ m. IsTesting m when_true when_false goes_on) }
 {
     Ok(Measure {
@@ -81,7 +81,7 @@ fn testing(when_true: u32, when_false: u32, goes_on: bool) -> Result<Measure, Fa
 }
 
 /// The length of what pushes a number.
-pub fn int_size(n: i32) -> u32
+pub fn int_size(n: i32) -> usize
     ensures { result ≡ int_bytes n }
 {
     if -1 <= n && n <= 5 {
@@ -94,7 +94,7 @@ pub fn int_size(n: i32) -> u32
 }
 
 /// The length of a load, and of a store, of a local of this type.
-pub fn local_size(ty: TypeTree, local: usize) -> u32
+pub fn local_size(ty: TypeTree, local: usize) -> usize
     ensures loads { result ≡ bytes (loads ty local) }
     ensures stores { result ≡ bytes (stores ty local) }
 {
@@ -105,7 +105,7 @@ pub fn local_size(ty: TypeTree, local: usize) -> u32
 }
 
 // The length of what stands behind a part of a text.
-fn join_size(ty: TypeTree, is_first: bool) -> u32
+fn join_size(ty: TypeTree, is_first: bool) -> usize
     ensures { result ≡ bytes (after_text is_first ty) }
 {
     match (ty, is_first) {
@@ -117,14 +117,14 @@ fn join_size(ty: TypeTree, is_first: bool) -> u32
 }
 
 // The length of what stands behind a part in a row of others.
-fn between_size(ty: TypeTree, is_last: bool) -> u32
+fn between_size(ty: TypeTree, is_last: bool) -> usize
     ensures { result ≡ bytes (after_part is_last ty) }
 {
     if is_last { 0 } else { discard_size(ty) }
 }
 
 /// The length of what takes a value of this type off the stack.
-pub fn discard_size(ty: TypeTree) -> u32
+pub fn discard_size(ty: TypeTree) -> usize
     ensures { result ≡ bytes (discards ty) }
 {
     match ty {
@@ -135,7 +135,7 @@ pub fn discard_size(ty: TypeTree) -> u32
 
 // A child, and so many bytes of what takes its value.
 #[cycle(measures)]
-fn measure_then(value: &Core, tail: u32) -> Result<Measure, Fail<TooLarge>>
+fn measure_then(value: &Core, tail: usize) -> Result<Measure, Memory>
     ensures { IfOk result (λ m. IsPlain m ((code_of value.now).size + kept_bytes (code_of value.now).goes_on tail) (code_of value.now).goes_on) }
 {
     let first = measure_of(value)?;
@@ -144,7 +144,7 @@ fn measure_then(value: &Core, tail: u32) -> Result<Measure, Fail<TooLarge>>
 
 // Two children, and so many bytes of what takes their values.
 #[cycle(measures)]
-fn measure_two(left: &Core, right: &Core, tail: u32) -> Result<Extent, Fail<TooLarge>>
+fn measure_two(left: &Core, right: &Core, tail: usize) -> Result<Extent, Memory>
     ensures { IfOk result (λ e. IsExtent e (two_bytes (code_of left.now) (code_of right.now) tail) ((code_of left.now).goes_on && (code_of right.now).goes_on)) }
 {
     let first = measure_of(left)?;
@@ -158,7 +158,7 @@ fn measure_two(left: &Core, right: &Core, tail: u32) -> Result<Extent, Fail<TooL
 
 // A comparison has one length, whichever value it goes on for.
 #[cycle(measures)]
-fn measure_compared(left: &Core, right: &Core) -> Result<Measure, Fail<TooLarge>>
+fn measure_compared(left: &Core, right: &Core) -> Result<Measure, Memory>
     ensures { IfOk result (λ m. IsTesting m (two_bytes (code_of left.now) (code_of right.now) 3) (two_bytes (code_of left.now) (code_of right.now) 3) ((code_of left.now).goes_on && (code_of right.now).goes_on)) }
 {
     let test = measure_two(left, right, 3)?;
@@ -166,7 +166,7 @@ fn measure_compared(left: &Core, right: &Core) -> Result<Measure, Fail<TooLarge>
 }
 
 #[cycle(measures)]
-fn measure_negated(value: &Core) -> Result<Measure, Fail<TooLarge>>
+fn measure_negated(value: &Core) -> Result<Measure, Memory>
     ensures { IfOk result (λ m. IsTesting m ((code_of value.now).test_size false) ((code_of value.now).test_size true) (code_of value.now).goes_on) }
 {
     let value = measure_of(value)?;
@@ -175,7 +175,7 @@ fn measure_negated(value: &Core) -> Result<Measure, Fail<TooLarge>>
 
 // The left side decides where it has this value.
 #[cycle(measures)]
-fn measure_short(decisive: bool, left: &Core, right: &Core) -> Result<Measure, Fail<TooLarge>>
+fn measure_short(decisive: bool, left: &Core, right: &Core) -> Result<Measure, Memory>
     ensures { IfOk result (λ m. IsTesting m ((code_of left.now).test_size decisive + kept_bytes (code_of left.now).goes_on ((code_of right.now).test_size true)) ((code_of left.now).test_size decisive + kept_bytes (code_of left.now).goes_on ((code_of right.now).test_size false)) (code_of left.now).goes_on) }
 {
     let first = measure_of(left)?;
@@ -193,7 +193,7 @@ fn measure_short(decisive: bool, left: &Core, right: &Core) -> Result<Measure, F
 }
 
 #[cycle(measures)]
-fn measure_texts(parts: &[Core]) -> Result<Extent, Fail<TooLarge>>
+fn measure_texts(parts: &[Core]) -> Result<Extent, Memory>
     ensures { IfOk result (λ e. IsExtent e (texts (map code_of parts.now)).size (texts (map code_of parts.now)).goes_on) }
 {
     if parts.is_empty() {
@@ -221,7 +221,7 @@ fn measure_texts(parts: &[Core]) -> Result<Extent, Fail<TooLarge>>
 }
 
 #[cycle(measures)]
-fn measure_values(arguments: &[Core]) -> Result<Extent, Fail<TooLarge>>
+fn measure_values(arguments: &[Core]) -> Result<Extent, Memory>
     ensures { IfOk result (λ e. IsExtent e (values (map code_of arguments.now)).size (values (map code_of arguments.now)).goes_on) }
 {
     let mut total = 0;
@@ -242,7 +242,7 @@ fn measure_values(arguments: &[Core]) -> Result<Extent, Fail<TooLarge>>
 }
 
 #[cycle(measures)]
-fn measure_in_turn(parts: &[Core]) -> Result<Extent, Fail<TooLarge>>
+fn measure_in_turn(parts: &[Core]) -> Result<Extent, Memory>
     ensures { IfOk result (λ e. IsExtent e (in_turn (map code_of parts.now)).size (in_turn (map code_of parts.now)).goes_on) }
 {
     let mut total = 0;
@@ -290,7 +290,7 @@ pub fn is_true(node: &Core) -> bool
 }
 
 /// The length of a condition, which is nothing for the literal true.
-pub fn condition_length(test: &Core, measure: Measure) -> u32
+pub fn condition_length(test: &Core, measure: Measure) -> usize
     requires { IsMeasure measure (code_of test.now) }
     ensures { result ≡ condition_size (code_of test.now) }
 {
@@ -298,7 +298,7 @@ pub fn condition_length(test: &Core, measure: Measure) -> u32
 }
 
 #[cycle(measures)]
-fn measure_if(test: &Core, held: &Core) -> Result<Measure, Fail<TooLarge>>
+fn measure_if(test: &Core, held: &Core) -> Result<Measure, Memory>
     ensures { IfOk result (λ m. IsPlain m (condition_size (code_of test.now) + kept_bytes (code_of test.now).goes_on (code_of held.now).size) (if (code_of test.now).always then (code_of held.now).goes_on else (code_of test.now).goes_on)) }
 {
     let condition = measure_of(test)?;
@@ -318,14 +318,14 @@ fn measure_if(test: &Core, held: &Core) -> Result<Measure, Fail<TooLarge>>
 }
 
 /// The length of the code for one way and of the jump over the code for the other.
-pub fn over_length(held: Measure) -> Result<u32, Fail<TooLarge>>
+pub fn over_length(held: Measure) -> Result<usize, Memory>
     ensures { IfOk result (λ n. n ≡ held.value + kept_bytes held.goes_on 3) }
 {
     plus(held.value, kept(held.goes_on, 3))
 }
 
 #[cycle(measures)]
-fn measure_if_else(test: &Core, held: &Core, failed: &Core) -> Result<Measure, Fail<TooLarge>>
+fn measure_if_else(test: &Core, held: &Core, failed: &Core) -> Result<Measure, Memory>
     ensures { IfOk result (λ m. IsPlain m (if (code_of test.now).always then (code_of held.now).size else either_bytes (code_of test.now) (code_of held.now) (code_of failed.now)) (if (code_of test.now).always then (code_of held.now).goes_on else (code_of test.now).goes_on && ((code_of held.now).goes_on || (code_of failed.now).goes_on))) }
 {
     let condition = measure_of(test)?;
@@ -342,14 +342,14 @@ fn measure_if_else(test: &Core, held: &Core, failed: &Core) -> Result<Measure, F
 }
 
 /// The length of a loop's body and of what takes its value off the stack and jumps back.
-pub fn body_length(body: Measure, ty: TypeTree) -> Result<u32, Fail<TooLarge>>
+pub fn body_length(body: Measure, ty: TypeTree) -> Result<usize, Memory>
     ensures { IfOk result (λ n. n ≡ body.value + kept_bytes body.goes_on (bytes (discards ty) + 3)) }
 {
     plus(body.value, kept(body.goes_on, plus(discard_size(ty), 3)?))
 }
 
 #[cycle(measures)]
-fn measure_while(test: &Core, body: &Core) -> Result<Measure, Fail<TooLarge>>
+fn measure_while(test: &Core, body: &Core) -> Result<Measure, Memory>
     ensures { IfOk result (λ m. IsPlain m (condition_size (code_of test.now) + kept_bytes (code_of test.now).goes_on ((code_of body.now).size + kept_bytes (code_of body.now).goes_on (bytes (discards body.now.ty) + 3))) ((code_of test.now).goes_on && not (code_of test.now).always)) }
 {
     let condition = measure_of(test)?;
@@ -365,7 +365,7 @@ fn measure_while(test: &Core, body: &Core) -> Result<Measure, Fail<TooLarge>>
 
 /// The measure of a node's code. The time is linear in the node; the code of a node that stands n choices deep is measured n times.
 #[cycle(measures)]
-pub fn measure_of(node: &Core) -> Result<Measure, Fail<TooLarge>>
+pub fn measure_of(node: &Core) -> Result<Measure, Memory>
     ensures { IfOk result (λ m. IsMeasure m (code_of node.now)) }
 {
     match &node.kind {

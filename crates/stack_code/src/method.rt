@@ -1,10 +1,12 @@
 //! The method of a function.
 
-ghost use Rattle.std.specs.Prelude.{◌≡◌, ◌<◌, ◌≤◌, ◌^◌, length, IfOk, OnOk, codes};
+ghost use Rattle.std.specs.Prelude.{◌≡◌, ◌<◌, ◌≤◌, ◌^◌, true, length, IfOk, OnOk, codes};
 ghost use Rattle.class_file.specs.Pools.{Extends, Slots};
 ghost use Rattle.stack_code.specs.Code.{body_code, bytes, Spells};
 ghost use Rattle.stack_code.specs.Emission.{Emits};
 ghost use Rattle.stack_code.specs.Room.{CodeIsWithinRoom};
+ghost use Rattle.stack_code.specs.Small.{IsSmall};
+ghost use Rattle.kc_text.specs.Fail.{IfFound};
 ghost use Rattle.stack_code.specs.Agrees.{IsCodeOf, CompiledAgrees, CompiledHasCode, CompiledIsFirstLot, FilesHaveOwnNames};
 ghost use Rattle.stack_code.specs.Implements.{CodeImplements};
 ghost use Rattle.stack_code.specs.Frames.{CompiledVerifies, frames_of, stack_of};
@@ -15,17 +17,17 @@ use crate::emit::emit;
 use crate::entries::{blank, entries_of};
 use crate::frames::{Walk, pass};
 use crate::measures::{discard_size, kept, measure_of, plus};
-use crate::operations::{discard, leave};
+use crate::operations::{CodeBuffer, discard, leave};
 use crate::walk::walk_discarded;
 use class_file::class::{Frame, Method};
 use class_file::instr::Instr;
 use class_file::pool::Pool;
 use kc_core::tree::{Core, Function};
-use kc_text::Fail;
+use kc_text::{Fail, Memory};
 use sqlite_items::Items;
 use std::alloc::Global;
 
-// The most bytes of code, local variables and operands that a class file holds (JVM Specification SE 8, 4.11).
+// The most bytes of code, local variables and operands that a class file holds (JVM Specification SE 8, 4.7.3 and 4.11).
 const MOST: usize = 65_535;
 
 // ACC_PUBLIC and ACC_STATIC (JVM Specification SE 8, 4.6).
@@ -35,10 +37,10 @@ const PUBLIC_STATIC: u16 = 0x0009;
 fn emit_body(
     alloc: Global,
     pool: &mut Pool,
-    code: &mut Vec<Instr>,
+    code: &mut CodeBuffer,
     body: &Core,
-) -> Result<(), Fail<TooLarge>>
-    ensures { OnOk result (Emits code.old.items code.new.items pool.old pool.new (body_code body.now)) }
+) -> Result<(), Memory>
+    ensures { OnOk result (Emits code.old code.new pool.old pool.new (body_code body.now)) }
 {
     if emit(alloc, pool, code, body)? {
         discard(code, body.ty)?;
@@ -49,7 +51,7 @@ fn emit_body(
 
 // The length of a body's code and of the return behind it, in bytes.
 #[tactic(auto, using(crate::proofs::Lengths::body_bytes))]
-fn code_length(body: &Core) -> Result<u32, Fail<TooLarge>>
+fn code_length(body: &Core) -> Result<usize, Memory>
     ensures { IfOk result (λ n. n ≡ bytes (body_code body.now)) }
 {
     let measure = measure_of(body)?;
@@ -64,14 +66,14 @@ fn frames_of(
     alloc: Global,
     function: &Function,
     code: &[Instr],
-    count: u32,
-) -> Result<Vec<Frame>, Fail<TooLarge>>
+    count: usize,
+) -> Result<Vec<Frame>, Memory>
     requires short { length code.now < 2 ^ 28 }
     requires bytes { count ≡ bytes (body_code function.now.body) }
     ensures { IfOk result (λ frames. (pool : Slots) → Spells pool 0 code.now (body_code function.now.body) → frames.items ≡ frames_of function.now) }
 {
     let locals = function.locals.as_slice();
-    let entries = entries_of(alloc, code, count as usize)?;
+    let entries = entries_of(alloc, code, count)?;
     let mut walk = Walk {
         at: 0,
         assigned: blank(alloc, locals.len())?,
@@ -83,13 +85,22 @@ fn frames_of(
     Ok(walk.frames)
 }
 
+// Does a class file hold code that fits, with so many bytes, local variables and operands?
+fn has_room(fits: bool, length: usize, locals: usize, operands: usize) -> bool
+    ensures yes { result ≡ true → (fits ≡ true) × (length ≤ 65535) × (locals ≤ 65535) × (operands ≤ 65535) }
+    ensures no { fits ≡ true → length ≤ 65535 → locals ≤ 65535 → operands ≤ 65535 → result ≡ true }
+{
+    fits && length <= MOST && locals <= MOST && operands <= MOST
+}
+
 /// The public static method of a function without parameters whose result is `Unit`.
 ///
-/// The pool gets the entries that the code names. It is `TooLarge` only where the code has more than 65,535 bytes, the function
-/// more than 65,535 locals or operands at once or names a local that it does not have, the pool no room, or a jump more than 32,767
-/// bytes to pass (JVM Specification SE 8, 4.7.3 and 4.11). Its frames (4.7.4) take time linear in the code and in their own size,
-/// and in the number of locals for each test.
-#[tactic(auto, using(crate::proofs::Emitting::emits_all, crate::proofs::Lengths::no_longer))]
+/// The pool gets the entries that the code names, or some of them where it is `TooLarge`. That is where the code has more than 65,535 bytes,
+/// the function more than 65,535 locals or operands at once or names a local by a number above 65,535, the pool no room, or a jump a distance
+/// of more than 32,767 bytes, counted from its first (JVM Specification SE 8, 4.7.3, 4.11 and 6.5); a function that is small is never so.
+/// Texts of more than 65,535 bytes in modified UTF-8 (4.4.7) are not looked for. The frames (4.7.4) of a function whose locals are there
+/// take time linear in the code and in their own size, and in the number of locals for each test.
+#[tactic(auto, using(crate::proofs::Emitting::emits_all, crate::proofs::Lengths::no_longer, crate::proofs::Near::too_large))]
 pub fn emit_function(
     alloc: Global,
     pool: &mut Pool,
@@ -103,23 +114,26 @@ pub fn emit_function(
     ensures short { IfOk result (λ m. length m.code ≤ 65535) }
     ensures deep { IfOk result (λ m. stack_of function.now ≤ m.max_stack) }
     ensures frames { IfOk result (λ m. m.frames ≡ frames_of function.now) }
+
+    // It is not too large where it is small.
+    ensures small { IsSmall pool.old function.now → IfFound result (λ _. ⊥) }
 {
-    let mut code = Vec::new(alloc);
+    let mut code = CodeBuffer::new(alloc);
     let length = code_length(&function.body)?;
     emit_body(alloc, pool, &mut code, &function.body)?;
     let locals = function.locals.len();
-    let deepest = depth_of(&function.body)? as usize;
-    if length as usize > MOST || locals > MOST || deepest > MOST {
+    let deepest = depth_of(&function.body)?;
+    if !has_room(code.fits, length, locals, deepest) {
         return Err(Fail::Found(TooLarge));
     }
-    let frames = frames_of(alloc, function, &code, length)?;
+    let frames = frames_of(alloc, function, &code.instrs, length)?;
     Ok(Method {
         flags: PUBLIC_STATIC,
         name: function.name.copy(alloc)?,
         descriptor: ascii(alloc, b"()V")?,
         max_stack: deepest as u16,
         max_locals: locals as u16,
-        code: Items::from_vec(code),
+        code: Items::from_vec(code.instrs),
         handlers: Items::new(alloc),
         frames: Items::from_vec(frames),
         code_others: Items::new(alloc),

@@ -1,11 +1,11 @@
 //! Operations as instructions at the code's end.
 
-ghost use Rattle.std.specs.Prelude.{◌≡◌, ◌+◌, ◌++◌, ◌∷◌, [], Some, OnOk, IfOk, pos};
+ghost use Rattle.std.specs.Prelude.{◌≡◌, ◌+◌, ◌<◌, ◌≤◌, ◌++◌, ◌∷◌, [], false, true, OnOk, MatchOption, pos};
 ghost use Rattle.class_file.specs.Pools.{Slots};
 ghost use Rattle.stack_code.specs.Code.{PushInt, PushText, Compute, Negate, Call, Jump, JumpIf, JumpCompare, Leave, back, bit, truth, truth_test, test_of, equal_test, loads, stores, to_text, discards, operator_of};
 ghost use Rattle.stack_code.specs.Emission.{Emits, after_part, after_text};
 
-use crate::constants::{Helper, TooLarge, literal, native, number};
+use crate::constants::{Helper, literal, native, number};
 use crate::instructions;
 use class_file::instr::Instr;
 use class_file::pool::Pool;
@@ -15,90 +15,138 @@ use kc_core::tree::{BinaryOp, Order, TypeTree};
 use kc_text::{Fail, Memory, Text};
 use std::alloc::Global;
 
-fn put(code: &mut Vec<Instr>, instr: Instr) -> Result<(), Memory>
-    ensures { OnOk result (code.new.items ≡ code.old.items ++ instr ∷ []) }
+/// The instructions of a code that is under way. `fits` says that there was one for each operation so far: a jump or the number of
+/// a local may be too large for an operand of 16 bits, and the constant pool may be full. Code that does not fit is not handed out.
+#[derive(Drop)]
+pub struct CodeBuffer {
+    pub instrs: Vec<Instr>,
+    pub fits: bool,
+}
+
+impl CodeBuffer {
+    /// No code.
+    pub fn new(alloc: Global) -> CodeBuffer
+        ensures empty { result.instrs.items ≡ [] }
+        ensures fits { result.fits ≡ true }
+    {
+        CodeBuffer {
+            instrs: Vec::new(alloc),
+            fits: true,
+        }
+    }
+}
+
+fn put(code: &mut CodeBuffer, instr: Instr) -> Result<(), Memory>
+    ensures instrs { OnOk result (code.new.instrs.items ≡ code.old.instrs.items ++ instr ∷ []) }
+    ensures fits { OnOk result (code.new.fits ≡ code.old.fits) }
 {
-    code.push(instr)?;
+    code.instrs.push(instr)?;
     Ok(())
 }
 
+// An operation for which there is no instruction.
+fn leave_out(code: &mut CodeBuffer)
+    ensures instrs { code.new.instrs.items ≡ code.old.instrs.items }
+    ensures fits { code.new.fits ≡ false }
+{
+    code.fits = false;
+}
+
 /// Pushes a number.
-#[tactic(auto, using(crate::proofs::Emitting::emits_one, crate::proofs::Emitting::emits_none, crate::proofs::Emitting::extends_none))]
-pub fn push_int(pool: &mut Pool, code: &mut Vec<Instr>, n: i32) -> Result<(), Fail<TooLarge>>
-    ensures { OnOk result (Emits code.old.items code.new.items pool.old pool.new (PushInt n ∷ [])) }
+#[tactic(auto, using(crate::proofs::Emitting::emits_one, crate::proofs::Emitting::emits_unfit, crate::proofs::Emitting::emits_none, crate::proofs::Emitting::extends_none))]
+pub fn push_int(pool: &mut Pool, code: &mut CodeBuffer, n: i32) -> Result<(), Memory>
+    ensures { OnOk result (Emits code.old code.new pool.old pool.new (PushInt n ∷ [])) }
 {
     match instructions::push_int(n) {
         Some(instr) => {
             put(code, instr)?;
             Ok(())
         }
+        None => match number(pool, n) {
+            Ok(index) => put(code, Instr::LdcW(index)),
+            Err(Fail::Found(_)) => {
+                leave_out(code);
+                Ok(())
+            }
+            Err(Fail::Memory) => Err(Memory),
+        },
+    }
+}
+
+/// Pushes a text.
+#[tactic(auto, using(crate::proofs::Emitting::emits_one, crate::proofs::Emitting::emits_unfit, crate::proofs::Emitting::emits_none, crate::proofs::Emitting::extends_none))]
+pub fn push_text(
+    alloc: Global,
+    pool: &mut Pool,
+    code: &mut CodeBuffer,
+    text: &Text,
+) -> Result<(), Memory>
+    ensures { OnOk result (Emits code.old code.new pool.old pool.new (PushText text.now ∷ [])) }
+{
+    let text = text.copy(alloc)?;
+    match literal(pool, text) {
+        Ok(index) => put(code, Instr::LdcW(index)),
+        Err(Fail::Found(_)) => {
+            leave_out(code);
+            Ok(())
+        }
+        Err(Fail::Memory) => Err(Memory),
+    }
+}
+
+// A local variable's number as an operand has 16 bits.
+fn operand(local: usize) -> Option<u16>
+    ensures { MatchOption result (65536 ≤ local) (λ n. n ≡ local) }
+{
+    if local < 65536 {
+        Some(local as u16)
+    } else {
+        None
+    }
+}
+
+/// Loads a local variable of a type.
+#[tactic(auto, using(crate::proofs::Emitting::emits_one, crate::proofs::Emitting::emits_unfit, crate::proofs::Emitting::emits_none, crate::proofs::Emitting::extends_none))]
+pub fn load(code: &mut CodeBuffer, ty: TypeTree, local: usize) -> Result<(), Memory>
+    ensures { OnOk result ((pool : Slots) → Emits code.old code.new pool pool (loads ty local)) }
+{
+    let kind = match ty {
+        TypeTree::Int | TypeTree::Boolean => Kind::Int,
+        TypeTree::String => Kind::Ref,
+        TypeTree::Unit => return Ok(()),
+    };
+    match operand(local) {
+        Some(number) => put(code, instructions::load(kind, number)),
         None => {
-            let index = number(pool, n)?;
-            put(code, Instr::LdcW(index))?;
+            leave_out(code);
             Ok(())
         }
     }
 }
 
-/// Pushes a text.
-#[tactic(auto, using(crate::proofs::Emitting::emits_one, crate::proofs::Emitting::emits_none, crate::proofs::Emitting::extends_none))]
-pub fn push_text(
-    alloc: Global,
-    pool: &mut Pool,
-    code: &mut Vec<Instr>,
-    text: &Text,
-) -> Result<(), Fail<TooLarge>>
-    ensures { OnOk result (Emits code.old.items code.new.items pool.old pool.new (PushText text.now ∷ [])) }
+/// Stores a value of a type into a local variable.
+#[tactic(auto, using(crate::proofs::Emitting::emits_one, crate::proofs::Emitting::emits_unfit, crate::proofs::Emitting::emits_none, crate::proofs::Emitting::extends_none))]
+pub fn store(code: &mut CodeBuffer, ty: TypeTree, local: usize) -> Result<(), Memory>
+    ensures { OnOk result ((pool : Slots) → Emits code.old code.new pool pool (stores ty local)) }
 {
-    let text = text.copy(alloc)?;
-    let index = literal(pool, text)?;
-    put(code, Instr::LdcW(index))?;
-    Ok(())
-}
-
-// A local variable's number as an operand has 16 bits.
-fn operand(local: usize) -> Result<u16, Fail<TooLarge>>
-    ensures { IfOk result (λ n. n ≡ local) }
-{
-    if local < 65536 {
-        Ok(local as u16)
-    } else {
-        Err(Fail::Found(TooLarge))
+    let kind = match ty {
+        TypeTree::Int | TypeTree::Boolean => Kind::Int,
+        TypeTree::String => Kind::Ref,
+        TypeTree::Unit => return Ok(()),
+    };
+    match operand(local) {
+        Some(number) => put(code, instructions::store(kind, number)),
+        None => {
+            leave_out(code);
+            Ok(())
+        }
     }
 }
 
-/// Loads a local variable of a type.
-#[tactic(auto, using(crate::proofs::Emitting::emits_one, crate::proofs::Emitting::emits_none, crate::proofs::Emitting::extends_none))]
-pub fn load(code: &mut Vec<Instr>, ty: TypeTree, local: usize) -> Result<(), Fail<TooLarge>>
-    ensures { OnOk result ((pool : Slots) → Emits code.old.items code.new.items pool pool (loads ty local)) }
-{
-    let kind = match ty {
-        TypeTree::Int | TypeTree::Boolean => Kind::Int,
-        TypeTree::String => Kind::Ref,
-        TypeTree::Unit => return Ok(()),
-    };
-    put(code, instructions::load(kind, operand(local)?))?;
-    Ok(())
-}
-
-/// Stores a value of a type into a local variable.
-#[tactic(auto, using(crate::proofs::Emitting::emits_one, crate::proofs::Emitting::emits_none, crate::proofs::Emitting::extends_none))]
-pub fn store(code: &mut Vec<Instr>, ty: TypeTree, local: usize) -> Result<(), Fail<TooLarge>>
-    ensures { OnOk result ((pool : Slots) → Emits code.old.items code.new.items pool pool (stores ty local)) }
-{
-    let kind = match ty {
-        TypeTree::Int | TypeTree::Boolean => Kind::Int,
-        TypeTree::String => Kind::Ref,
-        TypeTree::Unit => return Ok(()),
-    };
-    put(code, instructions::store(kind, operand(local)?))?;
-    Ok(())
-}
-
 /// Computes with two Ints.
-#[tactic(auto, using(crate::proofs::Emitting::emits_one, crate::proofs::Emitting::emits_none, crate::proofs::Emitting::extends_none))]
-pub fn compute(code: &mut Vec<Instr>, op: BinaryOp) -> Result<(), Memory>
-    ensures { OnOk result ((pool : Slots) → Emits code.old.items code.new.items pool pool (Compute (operator_of op) ∷ [])) }
+#[tactic(auto, using(crate::proofs::Emitting::emits_one, crate::proofs::Emitting::emits_unfit, crate::proofs::Emitting::emits_none, crate::proofs::Emitting::extends_none))]
+pub fn compute(code: &mut CodeBuffer, op: BinaryOp) -> Result<(), Memory>
+    ensures { OnOk result ((pool : Slots) → Emits code.old code.new pool pool (Compute (operator_of op) ∷ [])) }
 {
     let instr = match op {
         BinaryOp::Plus => Instr::Iadd,
@@ -111,17 +159,17 @@ pub fn compute(code: &mut Vec<Instr>, op: BinaryOp) -> Result<(), Memory>
 }
 
 /// Negates an Int.
-#[tactic(auto, using(crate::proofs::Emitting::emits_one, crate::proofs::Emitting::emits_none, crate::proofs::Emitting::extends_none))]
-pub fn negate(code: &mut Vec<Instr>) -> Result<(), Memory>
-    ensures { OnOk result ((pool : Slots) → Emits code.old.items code.new.items pool pool (Negate ∷ [])) }
+#[tactic(auto, using(crate::proofs::Emitting::emits_one, crate::proofs::Emitting::emits_unfit, crate::proofs::Emitting::emits_none, crate::proofs::Emitting::extends_none))]
+pub fn negate(code: &mut CodeBuffer) -> Result<(), Memory>
+    ensures { OnOk result ((pool : Slots) → Emits code.old code.new pool pool (Negate ∷ [])) }
 {
     put(code, Instr::Ineg)
 }
 
 /// Takes a value of a type off the stack.
-#[tactic(auto, using(crate::proofs::Emitting::emits_one, crate::proofs::Emitting::emits_none, crate::proofs::Emitting::extends_none))]
-pub fn discard(code: &mut Vec<Instr>, ty: TypeTree) -> Result<(), Memory>
-    ensures { OnOk result ((pool : Slots) → Emits code.old.items code.new.items pool pool (discards ty)) }
+#[tactic(auto, using(crate::proofs::Emitting::emits_one, crate::proofs::Emitting::emits_unfit, crate::proofs::Emitting::emits_none, crate::proofs::Emitting::extends_none))]
+pub fn discard(code: &mut CodeBuffer, ty: TypeTree) -> Result<(), Memory>
+    ensures { OnOk result ((pool : Slots) → Emits code.old code.new pool pool (discards ty)) }
 {
     match ty {
         TypeTree::Int | TypeTree::Boolean | TypeTree::String => put(code, Instr::Pop),
@@ -130,71 +178,89 @@ pub fn discard(code: &mut Vec<Instr>, ty: TypeTree) -> Result<(), Memory>
 }
 
 // A jump's distance as an operand has 16 bits, one of them its sign.
-fn forward(distance: u32) -> Result<i16, Fail<TooLarge>>
-    ensures { IfOk result (λ n. n ≡ pos distance) }
+fn forward(distance: usize) -> Option<i16>
+    ensures { MatchOption result (32768 ≤ distance) (λ n. n ≡ pos distance) }
 {
     if distance < 32768 {
-        Ok(distance as i16)
+        Some(distance as i16)
     } else {
-        Err(Fail::Found(TooLarge))
+        None
     }
 }
 
-fn backward(distance: u32) -> Result<i16, Fail<TooLarge>>
-    ensures { IfOk result (λ n. n ≡ back distance) }
+fn backward(distance: usize) -> Option<i16>
+    ensures { MatchOption result (32768 ≤ distance) (λ n. n ≡ back distance) }
 {
-    Ok(-forward(distance)?)
+    match forward(distance) {
+        Some(distance) => Some(-distance),
+        None => None,
+    }
 }
 
 // The distance of a jump that goes on so many bytes behind its end.
-fn beyond_jump(beyond: u32) -> Result<i16, Fail<TooLarge>>
-    ensures { IfOk result (λ n. n ≡ pos (beyond + 3)) }
+fn beyond_jump(beyond: usize) -> Option<i16>
+    ensures { MatchOption result (32768 ≤ beyond + 3) (λ n. n ≡ pos (beyond + 3)) }
 {
     match beyond.checked_add(3) {
         Some(distance) => forward(distance),
-        None => Err(Fail::Found(TooLarge)),
+        None => None,
     }
 }
 
 /// Goes on so many bytes behind the jump.
-#[tactic(auto, using(crate::proofs::Emitting::emits_row))]
-pub fn jump(code: &mut Vec<Instr>, beyond: u32) -> Result<(), Fail<TooLarge>>
-    ensures { OnOk result ((pool : Slots) → Emits code.old.items code.new.items pool pool (Jump (pos (beyond + 3)) ∷ [])) }
+#[tactic(auto, using(crate::proofs::Emitting::emits_row, crate::proofs::Emitting::emits_unfit))]
+pub fn jump(code: &mut CodeBuffer, beyond: usize) -> Result<(), Memory>
+    ensures { OnOk result ((pool : Slots) → Emits code.old code.new pool pool (Jump (pos (beyond + 3)) ∷ [])) }
 {
-    put(code, Instr::Goto(beyond_jump(beyond)?))?;
-    Ok(())
+    match beyond_jump(beyond) {
+        Some(distance) => put(code, Instr::Goto(distance)),
+        None => {
+            leave_out(code);
+            Ok(())
+        }
+    }
 }
 
 /// Goes on so many bytes before the jump.
-#[tactic(auto, using(crate::proofs::Emitting::emits_row))]
-pub fn jump_back(code: &mut Vec<Instr>, distance: u32) -> Result<(), Fail<TooLarge>>
-    ensures { OnOk result ((pool : Slots) → Emits code.old.items code.new.items pool pool (Jump (back distance) ∷ [])) }
+#[tactic(auto, using(crate::proofs::Emitting::emits_row, crate::proofs::Emitting::emits_unfit))]
+pub fn jump_back(code: &mut CodeBuffer, distance: usize) -> Result<(), Memory>
+    ensures { OnOk result ((pool : Slots) → Emits code.old code.new pool pool (Jump (back distance) ∷ [])) }
 {
-    put(code, Instr::Goto(backward(distance)?))?;
-    Ok(())
+    match backward(distance) {
+        Some(distance) => put(code, Instr::Goto(distance)),
+        None => {
+            leave_out(code);
+            Ok(())
+        }
+    }
 }
 
 /// Takes a Boolean off the stack, and goes on so many bytes behind the jump where it is this one.
-#[tactic(auto, using(crate::proofs::Emitting::emits_row))]
-pub fn jump_if(code: &mut Vec<Instr>, when: bool, beyond: u32) -> Result<(), Fail<TooLarge>>
-    ensures { OnOk result ((pool : Slots) → Emits code.old.items code.new.items pool pool (JumpIf (truth_test when) (beyond + 3) ∷ [])) }
+#[tactic(auto, using(crate::proofs::Emitting::emits_row, crate::proofs::Emitting::emits_unfit))]
+pub fn jump_if(code: &mut CodeBuffer, when: bool, beyond: usize) -> Result<(), Memory>
+    ensures { OnOk result ((pool : Slots) → Emits code.old code.new pool pool (JumpIf (truth_test when) (beyond + 3) ∷ [])) }
 {
-    let distance = beyond_jump(beyond)?;
+    let Some(distance) = beyond_jump(beyond) else {
+        leave_out(code);
+        return Ok(());
+    };
     let instr = if when {
         Instr::Ifne(distance)
     } else {
         Instr::Ifeq(distance)
     };
-    put(code, instr)?;
-    Ok(())
+    put(code, instr)
 }
 
 /// Takes two Ints off the stack, and goes on so many bytes behind the jump where they pass the test.
-#[tactic(auto, using(crate::proofs::Emitting::emits_row))]
-pub fn jump_compare(code: &mut Vec<Instr>, test: Test, beyond: u32) -> Result<(), Fail<TooLarge>>
-    ensures { OnOk result ((pool : Slots) → Emits code.old.items code.new.items pool pool (JumpCompare test (beyond + 3) ∷ [])) }
+#[tactic(auto, using(crate::proofs::Emitting::emits_row, crate::proofs::Emitting::emits_unfit))]
+pub fn jump_compare(code: &mut CodeBuffer, test: Test, beyond: usize) -> Result<(), Memory>
+    ensures { OnOk result ((pool : Slots) → Emits code.old code.new pool pool (JumpCompare test (beyond + 3) ∷ [])) }
 {
-    let distance = beyond_jump(beyond)?;
+    let Some(distance) = beyond_jump(beyond) else {
+        leave_out(code);
+        return Ok(());
+    };
     let instr = match test {
         Test::Eq => Instr::IfIcmpeq(distance),
         Test::Ne => Instr::IfIcmpne(distance),
@@ -203,8 +269,7 @@ pub fn jump_compare(code: &mut Vec<Instr>, test: Test, beyond: u32) -> Result<()
         Test::Gt => Instr::IfIcmpgt(distance),
         Test::Le => Instr::IfIcmple(distance),
     };
-    put(code, instr)?;
-    Ok(())
+    put(code, instr)
 }
 
 /// The test that two Ints pass where their comparison comes to this value.
@@ -228,8 +293,8 @@ pub fn equal_test(when: bool) -> Test
 
 /// Pushes a Boolean.
 #[tactic(auto, using(crate::proofs::Emitting::emits_row))]
-pub fn push_bool(code: &mut Vec<Instr>, value: bool) -> Result<(), Memory>
-    ensures { OnOk result ((pool : Slots) → Emits code.old.items code.new.items pool pool (PushInt (bit value) ∷ [])) }
+pub fn push_bool(code: &mut CodeBuffer, value: bool) -> Result<(), Memory>
+    ensures { OnOk result ((pool : Slots) → Emits code.old code.new pool pool (PushInt (bit value) ∷ [])) }
 {
     put(
         code,
@@ -243,8 +308,8 @@ pub fn push_bool(code: &mut Vec<Instr>, value: bool) -> Result<(), Memory>
 
 /// The two values of a test that goes on 4 bytes behind its end where it is false.
 #[tactic(auto, using(crate::proofs::Emitting::emits_then))]
-pub fn push_truth(code: &mut Vec<Instr>) -> Result<(), Fail<TooLarge>>
-    ensures { OnOk result ((pool : Slots) → Emits code.old.items code.new.items pool pool truth) }
+pub fn push_truth(code: &mut CodeBuffer) -> Result<(), Memory>
+    ensures { OnOk result ((pool : Slots) → Emits code.old code.new pool pool truth) }
 {
     push_bool(code, true)?;
     jump(code, 1)?;
@@ -253,37 +318,42 @@ pub fn push_truth(code: &mut Vec<Instr>) -> Result<(), Fail<TooLarge>>
 }
 
 /// Returns without a value.
-#[tactic(auto, using(crate::proofs::Emitting::emits_one, crate::proofs::Emitting::emits_none, crate::proofs::Emitting::extends_none))]
-pub fn leave(code: &mut Vec<Instr>) -> Result<(), Memory>
-    ensures { OnOk result ((pool : Slots) → Emits code.old.items code.new.items pool pool (Leave ∷ [])) }
+#[tactic(auto, using(crate::proofs::Emitting::emits_one, crate::proofs::Emitting::emits_unfit, crate::proofs::Emitting::emits_none, crate::proofs::Emitting::extends_none))]
+pub fn leave(code: &mut CodeBuffer) -> Result<(), Memory>
+    ensures { OnOk result ((pool : Slots) → Emits code.old code.new pool pool (Leave ∷ [])) }
 {
     put(code, Instr::Return)
 }
 
 /// Calls a native.
-#[tactic(auto, using(crate::proofs::Emitting::emits_one, crate::proofs::Emitting::emits_none, crate::proofs::Emitting::extends_none))]
+#[tactic(auto, using(crate::proofs::Emitting::emits_one, crate::proofs::Emitting::emits_unfit, crate::proofs::Emitting::emits_none, crate::proofs::Emitting::extends_none))]
 pub fn call(
     alloc: Global,
     pool: &mut Pool,
-    code: &mut Vec<Instr>,
+    code: &mut CodeBuffer,
     helper: Helper,
-) -> Result<(), Fail<TooLarge>>
-    ensures { OnOk result (Emits code.old.items code.new.items pool.old pool.new (Call helper ∷ [])) }
+) -> Result<(), Memory>
+    ensures { OnOk result (Emits code.old code.new pool.old pool.new (Call helper ∷ [])) }
 {
-    let index = native(alloc, pool, helper)?;
-    put(code, Instr::Invokestatic(index))?;
-    Ok(())
+    match native(alloc, pool, helper) {
+        Ok(index) => put(code, Instr::Invokestatic(index)),
+        Err(Fail::Found(_)) => {
+            leave_out(code);
+            Ok(())
+        }
+        Err(Fail::Memory) => Err(Memory),
+    }
 }
 
 /// Turns a value of a type into its text.
-#[tactic(auto, using(crate::proofs::Emitting::emits_one, crate::proofs::Emitting::emits_none, crate::proofs::Emitting::extends_none))]
+#[tactic(auto, using(crate::proofs::Emitting::emits_one, crate::proofs::Emitting::emits_unfit, crate::proofs::Emitting::emits_none, crate::proofs::Emitting::extends_none))]
 pub fn to_text(
     alloc: Global,
     pool: &mut Pool,
-    code: &mut Vec<Instr>,
+    code: &mut CodeBuffer,
     ty: TypeTree,
-) -> Result<(), Fail<TooLarge>>
-    ensures { OnOk result (Emits code.old.items code.new.items pool.old pool.new (to_text ty)) }
+) -> Result<(), Memory>
+    ensures { OnOk result (Emits code.old code.new pool.old pool.new (to_text ty)) }
 {
     match ty {
         TypeTree::Int => call(alloc, pool, code, Helper::TextsOfInt),
@@ -297,23 +367,23 @@ pub fn to_text(
 }
 
 /// Behind a part that stands in a row of others: its value is dropped, but for the last one's.
-#[tactic(auto, using(crate::proofs::Emitting::emits_one, crate::proofs::Emitting::emits_none, crate::proofs::Emitting::emits_then, crate::proofs::Emitting::extends_none))]
-pub fn between(code: &mut Vec<Instr>, ty: TypeTree, is_last: bool) -> Result<(), Memory>
-    ensures { OnOk result ((pool : Slots) → Emits code.old.items code.new.items pool pool (after_part is_last ty)) }
+#[tactic(auto, using(crate::proofs::Emitting::emits_one, crate::proofs::Emitting::emits_unfit, crate::proofs::Emitting::emits_none, crate::proofs::Emitting::emits_then, crate::proofs::Emitting::extends_none))]
+pub fn between(code: &mut CodeBuffer, ty: TypeTree, is_last: bool) -> Result<(), Memory>
+    ensures { OnOk result ((pool : Slots) → Emits code.old code.new pool pool (after_part is_last ty)) }
 {
     if is_last { Ok(()) } else { discard(code, ty) }
 }
 
 /// Behind a part of a text: it becomes a text, and goes behind what stands there, but for the first one.
-#[tactic(auto, using(crate::proofs::Emitting::emits_one, crate::proofs::Emitting::emits_none, crate::proofs::Emitting::emits_then, crate::proofs::Emitting::extends_none))]
+#[tactic(auto, using(crate::proofs::Emitting::emits_one, crate::proofs::Emitting::emits_unfit, crate::proofs::Emitting::emits_none, crate::proofs::Emitting::emits_then, crate::proofs::Emitting::extends_none))]
 pub fn join(
     alloc: Global,
     pool: &mut Pool,
-    code: &mut Vec<Instr>,
+    code: &mut CodeBuffer,
     ty: TypeTree,
     is_first: bool,
-) -> Result<(), Fail<TooLarge>>
-    ensures { OnOk result (Emits code.old.items code.new.items pool.old pool.new (after_text is_first ty)) }
+) -> Result<(), Memory>
+    ensures { OnOk result (Emits code.old code.new pool.old pool.new (after_text is_first ty)) }
 {
     to_text(alloc, pool, code, ty)?;
     if is_first {

@@ -7,14 +7,13 @@ ghost use Rattle.stack_code.specs.Emission.{after_part};
 ghost use Rattle.stack_code.specs.Frames.{traced_of, in_line};
 ghost use Rattle.stack_code.specs.Walking.{set_of, known_of, Does, DoesOne, DoesTwo, DoesCompared, DoesLine, DoesValue, DoesValues, DoesText, PassesTruth, DoesEither, Tests, TestsPlain, TestsCondition, DoesKind, TestsKind, write_layer, minus_layer, binary_layer, short_layer, texts_layer, native_layer, block_layer, if_layer, if_else_layer, declare_layer, choice_layer, while_layer};
 
-use crate::constants::TooLarge;
 use crate::frames::{
     Branch, Walk, and, assign, copied, enter, join_behind, meet, meeting, or, pass, pass_discard,
     pass_local, pass_to_text, pass_truth, pop, push, restore, same,
 };
 use crate::measures::{int_size, is_true};
 use kc_core::tree::{Core, Kind, Local, Native, TypeTree, UnaryOp};
-use kc_text::Fail;
+use kc_text::Memory;
 use sqlite_items::Boxed;
 use std::alloc::Global;
 
@@ -34,8 +33,8 @@ fn walk_one(
     walk: &mut Walk,
     live: bool,
     value: &Core,
-    bytes: u32,
-) -> Result<bool, Fail<TooLarge>>
+    bytes: usize,
+) -> Result<bool, Memory>
     ensures { IfOk result (λ goes. DoesOne locals.now (set_of entries.now) live walk.old walk.new (traced_of value.now) bytes goes) }
 {
     let goes = walk_node(alloc, locals, entries, walk, live, value)?;
@@ -54,7 +53,7 @@ fn walk_stored(
     live: bool,
     local: usize,
     value: &Core,
-) -> Result<bool, Fail<TooLarge>>
+) -> Result<bool, Memory>
     ensures { IfOk result (λ goes. DoesKind locals.now (set_of entries.now) live walk.old walk.new (write_layer local (traced_of value.now)) goes) }
 {
     let goes = walk_node(alloc, locals, entries, walk, live, value)?;
@@ -81,7 +80,7 @@ fn walk_negate(
     walk: &mut Walk,
     live: bool,
     value: &Core,
-) -> Result<bool, Fail<TooLarge>>
+) -> Result<bool, Memory>
     ensures { IfOk result (λ goes. DoesKind locals.now (set_of entries.now) live walk.old walk.new (minus_layer (traced_of value.now)) goes) }
 {
     let goes = walk_one(alloc, locals, entries, walk, live, value, 1)?;
@@ -98,8 +97,8 @@ fn walk_two(
     live: bool,
     left: &Core,
     right: &Core,
-    bytes: u32,
-) -> Result<bool, Fail<TooLarge>>
+    bytes: usize,
+) -> Result<bool, Memory>
     ensures { IfOk result (λ goes. DoesTwo locals.now (set_of entries.now) live walk.old walk.new (traced_of left.now) (traced_of right.now) bytes goes) }
 {
     let first = walk_node(alloc, locals, entries, walk, live, left)?;
@@ -118,7 +117,7 @@ fn walk_binary(
     live: bool,
     left: &Core,
     right: &Core,
-) -> Result<bool, Fail<TooLarge>>
+) -> Result<bool, Memory>
     ensures { IfOk result (λ goes. (op : BinaryOp) → DoesKind locals.now (set_of entries.now) live walk.old walk.new (binary_layer op (traced_of left.now) (traced_of right.now)) goes) }
 {
     let goes = walk_two(alloc, locals, entries, walk, live, left, right, 1)?;
@@ -135,7 +134,7 @@ fn walk_compared(
     live: bool,
     left: &Core,
     right: &Core,
-) -> Result<Branch, Fail<TooLarge>>
+) -> Result<Branch, Memory>
     ensures { IfOk result (λ b. DoesCompared locals.now (set_of entries.now) live walk.old walk.new (traced_of left.now) (traced_of right.now) b) }
 {
     let goes = walk_two(alloc, locals, entries, walk, live, left, right, 3)?;
@@ -158,7 +157,7 @@ fn walk_short(
     left: &Core,
     right: &Core,
     when: bool,
-) -> Result<Branch, Fail<TooLarge>>
+) -> Result<Branch, Memory>
     ensures { IfOk result (λ b. TestsKind locals.now (set_of entries.now) live walk.old walk.new (short_layer decisive (traced_of left.now) (traced_of right.now)) when b) }
 {
     let first = walk_test(alloc, locals, entries, walk, live, left, decisive)?;
@@ -194,7 +193,7 @@ fn walk_plain_test(
     walk: &mut Walk,
     live: bool,
     node: &Core,
-) -> Result<Branch, Fail<TooLarge>>
+) -> Result<Branch, Memory>
     ensures { IfOk result (λ b. TestsPlain locals.now (set_of entries.now) live walk.old walk.new (traced_of node.now) b) }
 {
     let goes = walk_one(alloc, locals, entries, walk, live, node, 3)?;
@@ -214,7 +213,7 @@ pub fn walk_discarded(
     walk: &mut Walk,
     live: bool,
     value: &Core,
-) -> Result<bool, Fail<TooLarge>>
+) -> Result<bool, Memory>
     ensures { IfOk result (λ goes. DoesLine locals.now (set_of entries.now) live walk.old walk.new (traced_of value.now) (discards value.now.ty) (in_line (discards value.now.ty)) goes) }
 {
     let goes = walk_node(alloc, locals, entries, walk, live, value)?;
@@ -234,7 +233,7 @@ fn walk_turn(
     live: bool,
     part: &Core,
     is_last: bool,
-) -> Result<bool, Fail<TooLarge>>
+) -> Result<bool, Memory>
     ensures { IfOk result (λ goes. DoesLine locals.now (set_of entries.now) live walk.old walk.new (traced_of part.now) (after_part is_last part.now.ty) (in_line (after_part is_last part.now.ty)) goes) }
 {
     if is_last {
@@ -255,7 +254,7 @@ fn walk_text(
     walk: &mut Walk,
     live: bool,
     part: &Core,
-) -> Result<bool, Fail<TooLarge>>
+) -> Result<bool, Memory>
     ensures { IfOk result (λ goes. DoesLine locals.now (set_of entries.now) live walk.old walk.new (traced_of part.now) (to_text part.now.ty) (in_line (to_text part.now.ty)) goes) }
 {
     let goes = walk_node(alloc, locals, entries, walk, live, part)?;
@@ -275,7 +274,7 @@ fn walk_joined(
     live: bool,
     part: &Core,
     first: bool,
-) -> Result<bool, Fail<TooLarge>>
+) -> Result<bool, Memory>
     ensures { IfOk result (λ goes. DoesText locals.now (set_of entries.now) live walk.old walk.new (traced_of part.now) first part.now.ty goes) }
 {
     let goes = walk_text(alloc, locals, entries, walk, live, part)?;
@@ -293,7 +292,7 @@ fn walk_value(
     walk: &mut Walk,
     live: bool,
     value: &Core,
-) -> Result<bool, Fail<TooLarge>>
+) -> Result<bool, Memory>
     ensures { IfOk result (λ goes. DoesValue locals.now (set_of entries.now) live walk.old walk.new (traced_of value.now) goes) }
 {
     let goes = walk_node(alloc, locals, entries, walk, live, value)?;
@@ -309,7 +308,7 @@ fn walk_texts(
     walk: &mut Walk,
     live: bool,
     parts: &[Core],
-) -> Result<bool, Fail<TooLarge>>
+) -> Result<bool, Memory>
     ensures { IfOk result (λ goes. DoesKind locals.now (set_of entries.now) live walk.old walk.new (texts_layer (map traced_of parts.now)) goes) }
 {
     if parts.is_empty() {
@@ -333,7 +332,7 @@ fn walk_values(
     walk: &mut Walk,
     live: bool,
     arguments: &[Core],
-) -> Result<bool, Fail<TooLarge>>
+) -> Result<bool, Memory>
     ensures { IfOk result (λ goes. DoesValues locals.now (set_of entries.now) live walk.old walk.new (map traced_of arguments.now) goes) }
 {
     let height = walk.stack.len();
@@ -354,7 +353,7 @@ fn walk_native(
     walk: &mut Walk,
     live: bool,
     arguments: &[Core],
-) -> Result<bool, Fail<TooLarge>>
+) -> Result<bool, Memory>
     ensures { IfOk result (λ goes. DoesKind locals.now (set_of entries.now) live walk.old walk.new (native_layer (map traced_of arguments.now)) goes) }
 {
     let goes = walk_values(alloc, locals, entries, walk, live, arguments)?;
@@ -372,7 +371,7 @@ fn walk_in_turn(
     walk: &mut Walk,
     live: bool,
     parts: &[Core],
-) -> Result<bool, Fail<TooLarge>>
+) -> Result<bool, Memory>
     ensures { IfOk result (λ goes. DoesKind locals.now (set_of entries.now) live walk.old walk.new (block_layer (map traced_of parts.now)) goes) }
 {
     let mut on = true;
@@ -399,7 +398,7 @@ fn walk_condition(
     walk: &mut Walk,
     live: bool,
     test: &Core,
-) -> Result<Branch, Fail<TooLarge>>
+) -> Result<Branch, Memory>
     ensures { IfOk result (λ b. TestsCondition locals.now (set_of entries.now) live walk.old walk.new (traced_of test.now) b) }
 {
     if is_true(test) {
@@ -422,7 +421,7 @@ fn walk_if(
     live: bool,
     test: &Core,
     held: &Core,
-) -> Result<bool, Fail<TooLarge>>
+) -> Result<bool, Memory>
     ensures { IfOk result (λ goes. DoesKind locals.now (set_of entries.now) live walk.old walk.new (if_layer (traced_of test.now) (traced_of held.now)) goes) }
 {
     let branch = walk_condition(alloc, locals, entries, walk, live, test)?;
@@ -442,7 +441,7 @@ fn walk_either(
     test: &Core,
     held: &Core,
     failed: &Core,
-) -> Result<bool, Fail<TooLarge>>
+) -> Result<bool, Memory>
     ensures { IfOk result (λ goes. DoesEither locals.now (set_of entries.now) live walk.old walk.new (traced_of test.now) (traced_of held.now) (traced_of failed.now) goes) }
 {
     let branch = walk_test(alloc, locals, entries, walk, live, test, false)?;
@@ -471,7 +470,7 @@ fn walk_if_else(
     test: &Core,
     held: &Core,
     failed: &Core,
-) -> Result<bool, Fail<TooLarge>>
+) -> Result<bool, Memory>
     ensures { IfOk result (λ goes. DoesKind locals.now (set_of entries.now) live walk.old walk.new (if_else_layer (traced_of test.now) (traced_of held.now) (traced_of failed.now)) goes) }
 {
     if is_true(test) {
@@ -492,7 +491,7 @@ fn walk_while(
     live: bool,
     test: &Core,
     body: &Core,
-) -> Result<bool, Fail<TooLarge>>
+) -> Result<bool, Memory>
     ensures { IfOk result (λ goes. DoesKind locals.now (set_of entries.now) live walk.old walk.new (while_layer (traced_of test.now) (traced_of body.now)) goes) }
 {
     let branch = walk_condition(alloc, locals, entries, walk, live, test)?;
@@ -512,7 +511,7 @@ fn walk_declared(
     live: bool,
     local: usize,
     value: &Option<Boxed<Core>>,
-) -> Result<bool, Fail<TooLarge>>
+) -> Result<bool, Memory>
     ensures { IfOk result (λ goes. DoesKind locals.now (set_of entries.now) live walk.old walk.new (declare_layer local value.now) goes) }
 {
     match value {
@@ -534,7 +533,7 @@ fn walk_choice(
     test: &Core,
     held: &Core,
     failed: &Option<Boxed<Core>>,
-) -> Result<bool, Fail<TooLarge>>
+) -> Result<bool, Memory>
     ensures { IfOk result (λ goes. DoesKind locals.now (set_of entries.now) live walk.old walk.new (choice_layer (traced_of test.now) (traced_of held.now) failed.now) goes) }
 {
     match failed {
@@ -557,7 +556,7 @@ fn walk_truth(
     walk: &mut Walk,
     live: bool,
     branch: Branch,
-) -> Result<bool, Fail<TooLarge>>
+) -> Result<bool, Memory>
     ensures goes { IfOk result (λ goes. goes ≡ branch.goes) }
     ensures passes { OnOk result (PassesTruth locals.now (set_of entries.now) (live && branch.goes) walk.old walk.new (set_of branch.jumped.items)) }
 {
@@ -583,7 +582,7 @@ pub fn walk_test(
     live: bool,
     node: &Core,
     when: bool,
-) -> Result<Branch, Fail<TooLarge>>
+) -> Result<Branch, Memory>
     ensures { IfOk result (λ b. Tests locals.now (set_of entries.now) live walk.old walk.new (traced_of node.now) when b) }
 {
     match &node.kind {
@@ -644,7 +643,7 @@ pub fn walk_node(
     walk: &mut Walk,
     live: bool,
     node: &Core,
-) -> Result<bool, Fail<TooLarge>>
+) -> Result<bool, Memory>
     ensures { IfOk result (λ goes. Does locals.now (set_of entries.now) live walk.old walk.new (traced_of node.now) goes) }
 {
     match &node.kind {

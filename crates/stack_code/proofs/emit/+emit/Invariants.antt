@@ -6,17 +6,17 @@ use Rattle.stack_code.proofs.emit.+emit.Given as goal
 
 abbrev pub invariant-emit_values-loop-value : goal.invariant-emit_values-loop-value
 invariant-emit_values-loop-value l =
-    Partly l.fn.code.items l.code.items l.fn.pool l.pool (values (map code_of (drop l.value-index l.arguments))).code (values (map code_of l.arguments)).code
+    Partly l.fn.code l.code l.fn.pool l.pool (values (map code_of (drop l.value-index l.arguments))).code (values (map code_of l.arguments)).code
     × ((values (map code_of (drop l.value-index l.arguments))).goes_on ≡ (values (map code_of l.arguments)).goes_on)
 
 abbrev pub invariant-emit_in_turn-loop-i : goal.invariant-emit_in_turn-loop-i
 invariant-emit_in_turn-loop-i l =
-    Partly l.fn.code.items l.code.items l.fn.pool l.pool (in_turn (map code_of (drop l.i l.parts))).code (in_turn (map code_of l.parts)).code
+    Partly l.fn.code l.code l.fn.pool l.pool (in_turn (map code_of (drop l.i l.parts))).code (in_turn (map code_of l.parts)).code
     × ((in_turn (map code_of (drop l.i l.parts))).goes_on ≡ (in_turn (map code_of l.parts)).goes_on)
 
 abbrev pub invariant-emit_texts-loop-i : goal.invariant-emit_texts-loop-i
 invariant-emit_texts-loop-i l =
-    Partly l.fn.code.items l.code.items l.fn.pool l.pool (texts_from (nat_eq l.i 0) (map code_of (drop l.i l.parts))).code (texts (map code_of l.parts)).code
+    Partly l.fn.code l.code l.fn.pool l.pool (texts_from (nat_eq l.i 0) (map code_of (drop l.i l.parts))).code (texts (map code_of l.parts)).code
     × ((texts_from (nat_eq l.i 0) (map code_of (drop l.i l.parts))).goes_on ≡ (texts (map code_of l.parts)).goes_on)
 
 abbrev pub decreases-emit : goal.decreases-emit
@@ -27,6 +27,9 @@ decreases-emit_test l = 6 * size-Core l.node.now + 2
 
 abbrev pub decreases-emit_stored : goal.decreases-emit_stored
 decreases-emit_stored l = 6 * size-Core l.value.now + 1
+
+abbrev pub decreases-emit_declared : goal.decreases-emit_declared
+decreases-emit_declared l = 6 * goal.size-emit_declared l + 2
 
 abbrev pub decreases-emit_negate : goal.decreases-emit_negate
 decreases-emit_negate l = 6 * size-Core l.value.now + 1
