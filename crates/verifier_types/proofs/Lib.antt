@@ -1,7 +1,7 @@
 pub mod Lists
 pub mod BuiltIns
-pub mod Statics
+pub mod Chains
 pub mod ArrayNames
 pub mod Elements
 pub mod Spelling
-pub mod Named
+pub mod Positions

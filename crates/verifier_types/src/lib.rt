@@ -10,9 +10,11 @@ mod known;
 mod locals;
 mod named_set;
 mod names;
+mod places;
 mod rows;
 mod stack;
 mod start;
+mod statics;
 mod types;
 mod use_types;
 
@@ -26,4 +28,5 @@ pub use names::{is_array_name, is_special_name, reference_below};
 pub use rows::step;
 pub use stack::Stack;
 pub use start::{is_init, is_static, start_locals};
+pub use statics::Statics;
 pub use types::VerificationType;

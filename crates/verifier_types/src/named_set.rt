@@ -1,12 +1,12 @@
 //! Sets of class files with their classes by name.
-ghost use Rattle.std.specs.Prelude.{◌≡◌, ◌<◌, ◌^◌, ℕ, List, IfOk, IfSome, OnOk, length, slice_get};
-ghost use Rattle.std.specs.Option.{option_copied};
-ghost use Rattle.std.proofs.Common.{Bor};
+ghost use Rattle.std.specs.Prelude.{◌≡◌, ◌<◌, ◌^◌, IfOk, IfSome, length, map, slice_get};
+ghost use Rattle.std.specs.Option.{option_copied, option_map};
 ghost use Rattle.indexmap.specs.IndexMap.{get};
-ghost use Rattle.class_file.specs.Pools.{is_text};
 ghost use Rattle.class_file.specs.Classes.{class_named};
-ghost use Rattle.verifier_types.specs.Places.{or_place, place_if, are_same, PlacesAre};
+ghost use Rattle.verifier_types.specs.Places.{are_same, PlacesAre};
 
+use crate::places::note;
+use crate::statics::Statics;
 use class_file::class::{ClassFile, Set};
 use indexmap::IndexMap;
 use kc_text::Memory;
@@ -22,21 +22,6 @@ fn place_in<'a>(places: &IndexMap<&'a [u16], usize>, name: &'a [u16]) -> Option<
     }
 }
 
-// Keeps the place of a name that has none yet.
-fn note<'a>(
-    places: &mut IndexMap<&'a [u16], usize>,
-    name: &'a [u16],
-    place: usize,
-) -> Result<(), Memory>
-    ensures { OnOk result ((t : Bor (List ℕ)) → get are_same places.new t ≡ or_place (get are_same places.old t) (place_if (is_text name.entry.now t.now) place)) }
-{
-    if places.get(&name).is_some() {
-        return Ok(());
-    }
-    places.insert(name, place)?;
-    Ok(())
-}
-
 fn places_of<'a>(
     alloc: Global,
     classes: &'a [ClassFile],
@@ -50,11 +35,22 @@ fn places_of<'a>(
     Ok(places)
 }
 
-/// A set of class files, whose classes are looked up by name in constant time.
+fn statics_of<'a>(alloc: Global, classes: &'a [ClassFile]) -> Result<Vec<Statics<'a>>, Memory>
+    ensures { IfOk result (λ all. all.items ≡ map (λ c. c.methods) classes.now) }
+{
+    let mut all = Vec::new(alloc);
+    for class in classes {
+        all.push(Statics::of(alloc, class.methods.as_slice())?)?;
+    }
+    Ok(all)
+}
+
+/// A set of class files, whose classes are looked up by name in constant time, and so are their static methods.
 #[derive(Drop)]
 pub struct NamedSet<'a> {
     set: &'a Set,
     places: IndexMap<&'a [u16], usize>,
+    statics: Vec<Statics<'a>>,
 }
 
 impl<'a> Model for NamedSet<'a> {
@@ -65,7 +61,9 @@ impl<'a> Model for NamedSet<'a> {
 
     ghost view = { λ c. c.set.now };
 
-    ghost invariant = { λ c. PlacesAre c.places c.set.now.classes };
+    ghost use Rattle.std.specs.Prelude.{◌≡◌, map};
+
+    ghost invariant = { λ c. PlacesAre c.places c.set.now.classes × c.statics.items ≡ map (λ file. file.methods) c.set.now.classes };
 }
 
 impl<'a> NamedSet<'a> {
@@ -73,8 +71,14 @@ impl<'a> NamedSet<'a> {
     pub fn new(alloc: Global, set: &'a Set) -> Result<NamedSet<'a>, Memory>
         ensures { IfOk result (λ named. named ≡ set.now) }
     {
-        let places = places_of(alloc, set.classes.as_slice())?;
-        Ok(NamedSet { set, places })
+        let classes = set.classes.as_slice();
+        let places = places_of(alloc, classes)?;
+        let statics = statics_of(alloc, classes)?;
+        Ok(NamedSet {
+            set,
+            places,
+            statics,
+        })
     }
 
     /// The set.
@@ -106,5 +110,12 @@ impl<'a> NamedSet<'a> {
     {
         let _count = self.count();
         place_in(&self.places, name)
+    }
+
+    /// The static methods of the class file at a place.
+    pub fn statics(&self, place: usize) -> Option<&Statics<'a>>
+        ensures { option_copied result ≡ option_map (λ c. c.methods) (slice_get self.now.classes place) }
+    {
+        self.statics.get(place)
     }
 }

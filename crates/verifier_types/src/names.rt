@@ -6,7 +6,7 @@ ghost use Rattle.class_file.specs.Pools.{is_text};
 ghost use Rattle.class_file.specs.Classes.{class_number, superclass, class_at, class_count, chain, chain_up_to, own_method, first_method, element_of_class, without_last, array_name, named_type, owner_number, is_special_name, is_static_flag};
 ghost use Rattle.class_file.specs.Descriptors.{is_array_name};
 ghost use Rattle.class_file.specs.Members.{reference_below, is_interface_view, is_root, is_member, is_there, element_below, has_static};
-ghost use Rattle.verifier_types.specs.Names.{element_seen, static_among};
+ghost use Rattle.verifier_types.specs.Names.{element_seen};
 
 use crate::built_ins::{
     BUILT_IN_COUNT, built_in_number, built_in_superclass, has_built_in_static,
@@ -14,7 +14,7 @@ use crate::built_ins::{
 };
 use crate::descriptors::is_field_descriptor;
 use crate::named_set::NamedSet;
-use class_file::class::{ClassFile, Method};
+use class_file::class::ClassFile;
 
 /// The number of the class of this name.
 pub fn class_number(set: &NamedSet, name: &[u16]) -> Option<usize>
@@ -171,22 +171,15 @@ pub fn reference_below(set: &NamedSet, b: &[u16], c: &[u16]) -> bool
     }
 }
 
-fn has_own(methods: &[Method], name: &[u16], descriptor: &[u16]) -> bool
-    ensures { result ≡ static_among methods.now name.now descriptor.now }
-{
-    methods.iter().any(|m| m.flags & 8 != 0
-        && (m.name.units() == name && m.descriptor.units() == descriptor))
-}
-
 fn has_own_static(set: &NamedSet, number: usize, name: &[u16], descriptor: &[u16]) -> bool
     ensures { result ≡ is_there (own_method set.now true name.now descriptor.now number) }
 {
     if number < BUILT_IN_COUNT {
         return has_built_in_static(set, number, name, descriptor);
     }
-    match set.get(number - BUILT_IN_COUNT) {
+    match set.statics(number - BUILT_IN_COUNT) {
         None => false,
-        Some(class) => has_own(class.methods.as_slice(), name, descriptor),
+        Some(statics) => statics.place(name, descriptor).is_some(),
     }
 }
 

@@ -1,10 +1,14 @@
-use Rattle.std.proofs.Common.{List, sym, ap, ◌∙◌}
-use Rattle.class_file.specs.declared.class.Method.{Method}
-use Rattle.verifier_types.specs.Names.{static_among}
-use Rattle.verifier_types.proofs.Statics.{own_here}
+use Rattle.std.proofs.Common.{sym, ap, ◌∙◌, refl}
+use Rattle.std.specs.Option.{is_some}
+use Rattle.std.specs.Prelude.{slice_get, ◌-◌}
+use Rattle.verifier_types.specs.Places.{is_static_named}
+use Rattle.verifier_types.proofs.Chains.{own_among}
+use Rattle.verifier_types.proofs.Positions.{is_found}
 use Rattle.verifier_types.proofs.names.has_own_static.Goals as goal
 
 pub returns-in-Some : goal.returns-in-Some
 returns-in-Some c =
-    c.has_own.ensures ∙ ap (λ (ms : List Method). static_among ms c.args.name.now c.args.descriptor.now) c.as_slice.ensures
-    ∙ sym (own_here c.args.set.now c.args.number c.args.name.now c.args.descriptor.now c.in-Some.class.now c.if-number-lt-BUILT_IN_COUNT.false (sym c.in-Some.ensures))
+    let set = c.args.set.now in
+    let methods = c.in-Some.statics.now in
+    c.is_some.ensures ∙ ap is_some c.place.ensures ∙ is_found (is_static_named c.args.name.now c.args.descriptor.now) methods
+    ∙ sym (own_among set c.args.number c.args.name.now c.args.descriptor.now methods (slice_get set.classes (c.args.number - 37)) c.if-number-lt-BUILT_IN_COUNT.false refl c.in-Some.ensures)

@@ -5,7 +5,6 @@ use Rattle.class_file.specs.declared.class.ClassFile.{ClassFile}
 use Rattle.class_file.specs.declared.class.Set.{Set}
 use Rattle.class_file.specs.Pools.{is_text}
 use Rattle.class_file.specs.Classes.{class_named}
-use Rattle.verifier_types.proofs.Named.{named}
 use Rattle.verifier_types.proofs.named_set.NamedSet.place.Goals as goal
 
 -- a place is one of the list
@@ -17,7 +16,7 @@ few name (d ∷ cs) (Some place) count e is h =
 
 pub returns-clause-exact : goal.returns-clause-exact
 returns-clause-exact c =
-    c.place_in.ensures ∙ c.self.invariant.holds c.args.name ∙ named c.args.name.now c.self.inside.set.now.classes
+    c.place_in.ensures ∙ c.self.invariant.0.holds c.args.name
     ∙ ap (λ (s : Set). class_named c.args.name.now s.classes) c.self.view_is
 
 pub returns-clause-small : goal.returns-clause-small
