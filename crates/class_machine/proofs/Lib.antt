@@ -9,6 +9,7 @@ pub mod Starting
 pub mod Calling
 pub mod Stepping
 pub mod Sequences
+pub mod Moving
 pub mod Ended
 pub mod FirstLot
 pub mod Verifying

@@ -5,6 +5,7 @@ pub mod Lot
 pub mod Building
 pub mod Links
 pub mod Core
+pub mod Plain
 pub mod Runs
 pub mod Throws
 pub mod Seen

@@ -36,9 +36,13 @@ pub record Stands (old new : Frame) : Type 0 where
   pub at_is : new.at ≡ old.at
   pub locals_are : new.locals ≡ old.locals
 
+-- the frame went on
+abbrev pub DidGoOn : Effect → Frame → Frame → Type 0
+DidGoOn e old new = (e ≡ Goes new.at new.locals.items (reverse new.stack.items)) × SameMethod old new
+
 -- a row that did not fail did this; one that is not built did nothing
 abbrev pub Did : Row → Effect → Went → Frame → Frame → Type 0
-Did r e On old new = (e ≡ Goes new.at new.locals.items (reverse new.stack.items)) × SameMethod old new
+Did r e On old new = DidGoOn e old new
 Did r e (Threw x) old new = (e ≡ Throws x) × Stands old new
 Did r e (Loads i) old new = (e ≡ LoadsConstant i) × (new ≡ old)
 Did r e (LoadsWide i) old new = (e ≡ LoadsLong i) × (new ≡ old)

@@ -1,12 +1,11 @@
 // Names resolved and code spread out by byte offset, once.
 
-ghost use Rattle.std.specs.Prelude.{◌≡◌, ◌<◌, ◌^◌, ◌++◌, ◌==◌, nat_eq, length, map, position, OnOk, IfOk, Some, false, replicate, All, codes};
+ghost use Rattle.std.specs.Prelude.{◌≡◌, ◌<◌, ◌^◌, ◌++◌, ◌==◌, nat_eq, ℕ, List, length, map, position, OnOk, IfOk, Some, false, replicate, All, codes};
 ghost use Rattle.std.specs.Cmp.Lexicographic.{pointwise};
 ghost use Rattle.std.specs.Option.{option_copied};
 ghost use Rattle.class_file.specs.Pools.{entry_at, text_in, name_in, typed_in, named, is_member};
-ghost use Rattle.class_file.specs.Classes.{class_named};
 ghost use Rattle.class_file.specs.Lots.{static_named};
-ghost use Rattle.class_machine.specs.Links.{IsLinked, LinksMethod, native_named, native_in, count_of, own_named, own_in, main_target, plain_target, exception_named, caught_in, linked_handler, meaning_of, meaning_in, method_parts, method_parts_of, ops_of, parts, parts_of, all_parts};
+ghost use Rattle.class_machine.specs.Links.{IsLinked, LinksMethod, native_named, native_in, count_of, locals_of, own_in_class, own_named, own_in, main_target, plain_target, exception_named, caught_in, linked_handler, meaning_of, meaning_in, method_parts, method_parts_of, ops_of, parts, parts_of, all_parts};
 
 use crate::links::{Caught, Link, LinkedClass, LinkedHandler, LinkedMethod, Links, Op, Target};
 use class_file::class::{ClassFile, Handler, Method, Set};
@@ -16,8 +15,7 @@ use class_file::table::{length_of, row_of};
 use class_file::value::NativeId;
 use kc_text::{Memory, Text};
 use std::alloc::Global;
-use verifier::static_named;
-use verifier_types::described;
+use verifier_types::{NamedSet, described};
 
 // The number of the first class of exceptions, which is Throwable.
 const FIRST_EXCEPTION: usize = 7;
@@ -281,12 +279,6 @@ fn native_at(pool: &Pool, owner: u16, member: u16) -> Option<NativeId>
     }
 }
 
-fn class_named(name: &Text, classes: &[ClassFile]) -> Option<usize>
-    ensures { result ≡ class_named name.now classes.now }
-{
-    classes.iter().position(|class| class.this_name == *name)
-}
-
 fn plain_static_named(name: &[u8], methods: &[Method]) -> Option<usize>
     ensures { result ≡ static_named name.now (codes "()V") methods.now }
 {
@@ -315,21 +307,32 @@ fn count_of(alloc: Global, descriptor: &Text) -> Result<usize, Memory>
     Ok(call.params.len())
 }
 
-// A method of the set that the class which is named has itself.
-fn own_named(
+fn locals_of(method: Option<&Method>) -> u16
+    ensures { result ≡ locals_of (option_copied method.entry) }
+{
+    match method {
+        Some(method) => method.max_locals,
+        None => 0,
+    }
+}
+
+// A static method that a class of the set has itself.
+fn own_in_class(
     alloc: Global,
-    classes: &[ClassFile],
-    owner: &Text,
+    set: &NamedSet,
+    class: usize,
     name: &Text,
     descriptor: &Text,
 ) -> Result<Option<Target>, Memory>
-    ensures { IfOk result (λ target. target ≡ own_named classes.now (record { owner = owner.now; name = name.now; descriptor = descriptor.now })) }
+    ensures { IfOk result (λ target. (owner : List ℕ) → target ≡ own_in_class set.now.classes (record { owner = owner; name = name.now; descriptor = descriptor.now }) (Some class)) }
 {
-    let Some(class) = class_named(owner, classes) else {
+    let Some(file) = set.get(class) else {
         return Ok(None);
     };
-    let methods = classes[class].methods.as_slice();
-    let Some(method) = static_named(name, descriptor, methods) else {
+    let Some(statics) = set.statics(class) else {
+        return Ok(None);
+    };
+    let Some(method) = statics.place(name.units(), descriptor.units()) else {
         return Ok(None);
     };
     let params = count_of(alloc, descriptor)?;
@@ -337,19 +340,35 @@ fn own_named(
         class,
         method,
         params,
-        max_locals: methods[method].max_locals,
+        max_locals: locals_of(file.methods.get(method)),
     }))
+}
+
+// A method of the set that the class which is named has itself.
+fn own_named(
+    alloc: Global,
+    set: &NamedSet,
+    owner: &Text,
+    name: &Text,
+    descriptor: &Text,
+) -> Result<Option<Target>, Memory>
+    ensures { IfOk result (λ target. target ≡ own_named set.now.classes (record { owner = owner.now; name = name.now; descriptor = descriptor.now })) }
+{
+    match set.place(owner.units()) {
+        Some(class) => own_in_class(alloc, set, class, name, descriptor),
+        None => Ok(None),
+    }
 }
 
 // The method of the set that a Methodref entry names.
 fn own_at(
     alloc: Global,
-    classes: &[ClassFile],
+    set: &NamedSet,
     pool: &Pool,
     owner: u16,
     member: u16,
 ) -> Result<Option<Target>, Memory>
-    ensures { IfOk result (λ target. target ≡ own_in classes.now (named false (typed_in pool.now (name_in pool.now (entry_at pool.now owner)) (entry_at pool.now member)))) }
+    ensures { IfOk result (λ target. target ≡ own_in set.now.classes (named false (typed_in pool.now (name_in pool.now (entry_at pool.now owner)) (entry_at pool.now member)))) }
 {
     let owner = name_at(pool, owner);
     match pool.get(member as usize) {
@@ -363,7 +382,7 @@ fn own_at(
             let Some(descriptor) = text_at(pool, *descriptor) else {
                 return Ok(None);
             };
-            own_named(alloc, classes, owner, name, descriptor)
+            own_named(alloc, set, owner, name, descriptor)
         }
         _ => Ok(None),
     }
@@ -372,25 +391,25 @@ fn own_at(
 // The method that a Methodref entry names.
 fn method_link(
     alloc: Global,
-    classes: &[ClassFile],
+    set: &NamedSet,
     pool: &Pool,
     owner: u16,
     member: u16,
 ) -> Result<Link, Memory>
-    ensures { IfOk result (λ link. LinksMethod link classes.now (named false (typed_in pool.now (name_in pool.now (entry_at pool.now owner)) (entry_at pool.now member)))) }
+    ensures { IfOk result (λ link. LinksMethod link set.now.classes (named false (typed_in pool.now (name_in pool.now (entry_at pool.now owner)) (entry_at pool.now member)))) }
 {
     if let Some(id) = native_at(pool, owner, member) {
         return Ok(Link::Native(id));
     }
-    match own_at(alloc, classes, pool, owner, member)? {
+    match own_at(alloc, set, pool, owner, member)? {
         Some(target) => Ok(Link::Method(target)),
         None => Ok(Link::Missing),
     }
 }
 
 // What an index stands for where code names it.
-fn link_of(alloc: Global, classes: &[ClassFile], pool: &Pool, index: usize) -> Result<Link, Memory>
-    ensures { IfOk result (λ link. meaning_of link ≡ meaning_in classes.now pool.now (entry_at pool.now index)) }
+fn link_of(alloc: Global, set: &NamedSet, pool: &Pool, index: usize) -> Result<Link, Memory>
+    ensures { IfOk result (λ link. meaning_of link ≡ meaning_in set.now.classes pool.now (entry_at pool.now index)) }
 {
     match pool.get(index) {
         Some(Entry::Integer(number)) => Ok(Link::Number(*number)),
@@ -399,7 +418,7 @@ fn link_of(alloc: Global, classes: &[ClassFile], pool: &Pool, index: usize) -> R
             Some(text) => Ok(Link::Literal(text.copy(alloc)?)),
             None => Ok(Link::Missing),
         },
-        Some(Entry::MethodRef(owner, member)) => method_link(alloc, classes, pool, *owner, *member),
+        Some(Entry::MethodRef(owner, member)) => method_link(alloc, set, pool, *owner, *member),
         Some(Entry::Utf8(_))
         | Some(Entry::Class(_))
         | Some(Entry::FieldRef(_, _))
@@ -409,27 +428,27 @@ fn link_of(alloc: Global, classes: &[ClassFile], pool: &Pool, index: usize) -> R
     }
 }
 
-fn link_constants(alloc: Global, classes: &[ClassFile], pool: &Pool) -> Result<Vec<Link>, Memory>
-    ensures { IfOk result (λ constants. map meaning_of constants.items ≡ map (meaning_in classes.now pool.now) pool.now) }
+fn link_constants(alloc: Global, set: &NamedSet, pool: &Pool) -> Result<Vec<Link>, Memory>
+    ensures { IfOk result (λ constants. map meaning_of constants.items ≡ map (meaning_in set.now.classes pool.now) pool.now) }
 {
     let mut constants = Vec::new(alloc);
     for index in 0..pool.count() {
-        constants.push(link_of(alloc, classes, pool, index)?)?;
+        constants.push(link_of(alloc, set, pool, index)?)?;
     }
     Ok(constants)
 }
 
 fn link_class(
     alloc: Global,
-    classes: &[ClassFile],
+    set: &NamedSet,
     place: usize,
     class: &ClassFile,
 ) -> Result<LinkedClass, Memory>
     requires { All (λ m. length m.code < 2 ^ 28) class.now.methods }
-    ensures { IfOk result (λ linked. parts linked ≡ parts_of classes.now place class.now) }
+    ensures { IfOk result (λ linked. parts linked ≡ parts_of set.now.classes place class.now) }
 {
     let methods = link_methods(alloc, &class.pool, class.methods.as_slice())?;
-    let constants = link_constants(alloc, classes, &class.pool)?;
+    let constants = link_constants(alloc, set, &class.pool)?;
     let initialiser = plain_target(place, b"<clinit>", class.methods.as_slice());
     Ok(LinkedClass {
         methods,
@@ -438,32 +457,40 @@ fn link_class(
     })
 }
 
-fn link_classes(alloc: Global, classes: &[ClassFile]) -> Result<Vec<LinkedClass>, Memory>
-    requires { All (λ c. All (λ m. length m.code < 2 ^ 28) c.methods) classes.now }
-    ensures { IfOk result (λ linked. map parts linked.items ≡ all_parts classes.now 0 classes.now) }
+fn classes_of<'a>(set: &NamedSet<'a>) -> &'a [ClassFile]
+    ensures { result.now ≡ set.now.classes }
+{
+    set.as_set().classes.as_slice()
+}
+
+fn link_classes(alloc: Global, set: &NamedSet) -> Result<Vec<LinkedClass>, Memory>
+    requires { All (λ c. All (λ m. length m.code < 2 ^ 28) c.methods) set.now.classes }
+    ensures { IfOk result (λ linked. map parts linked.items ≡ all_parts set.now.classes 0 set.now.classes) }
 {
     let mut linked = Vec::new(alloc);
+    let classes = classes_of(set);
     for class in classes {
         let place = linked.len();
-        linked.push(link_class(alloc, classes, place, class)?)?;
+        linked.push(link_class(alloc, set, place, class)?)?;
     }
     Ok(linked)
 }
 
-fn main_target(set: &Set) -> Option<Target>
+fn main_target(set: &NamedSet) -> Option<Target>
     ensures { result ≡ main_target set.now }
 {
-    let classes = set.classes.as_slice();
-    let class = class_named(&set.main, classes)?;
-    plain_target(class, b"main", classes[class].methods.as_slice())
+    let class = set.place(set.as_set().main.units())?;
+    let file = set.get(class)?;
+    plain_target(class, b"main", file.methods.as_slice())
 }
 
-/// The links of a set.
+/// The links of a set, in time linear in it.
 pub fn link(alloc: Global, set: &Set) -> Result<Links, Memory>
     requires { All (λ c. All (λ m. length m.code < 2 ^ 28) c.methods) set.now.classes }
     ensures { IfOk result (λ links. IsLinked set.now links) }
 {
-    let classes = link_classes(alloc, set.classes.as_slice())?;
-    let main = main_target(set);
+    let named = NamedSet::new(alloc, set)?;
+    let classes = link_classes(alloc, &named)?;
+    let main = main_target(&named);
     Ok(Links { classes, main })
 }

@@ -8,6 +8,7 @@ ghost use Rattle.class_machine.specs.Core.{state_of, core_of, frames_of, CanStep
 ghost use Rattle.class_machine.specs.Faults.{HasCause};
 ghost use Rattle.class_machine.specs.Links.{IsLinked, HasLink, HasWide, link_at, wide_at};
 ghost use Rattle.class_machine.specs.Heaps.{objects_of};
+ghost use Rattle.class_machine.specs.Plain.{TopStops};
 ghost use Rattle.class_machine.specs.Lot.{IsBuilt};
 ghost use Rattle.class_machine.specs.Runs.{Wrote, Cut, Comes, IsGoing, MadeText, needing, TopNative, TopNativeCut, CanNative, RunsCall, RunsNative, RunsOwn};
 ghost use Rattle.class_machine.specs.Stacks.{TopJumped};
@@ -15,7 +16,7 @@ ghost use Rattle.class_machine.specs.Stacks.{TopJumped};
 use crate::calls::{begin, enter, hand_back, op_at, start_class};
 use crate::faults::Fault;
 use crate::frame::Frame;
-use crate::frames::{in_top, jump_top, push_top, running};
+use crate::frames::{in_top, jump_top, move_top_on, push_top, running};
 use crate::heap::{Object, is_same};
 use crate::links::{Link, Links, Target};
 use crate::natives::{NativeDone, native};
@@ -215,9 +216,9 @@ fn invoke<O: Sink>(
     }
 }
 
-/// One step.
+/// One step that is not a plain row's.
 #[inline(always)]
-pub fn step<O: Sink>(
+fn step<O: Sink>(
     alloc: Global,
     set: &Set,
     links: &Links,
@@ -227,6 +228,7 @@ pub fn step<O: Sink>(
     requires linked { IsLinked set.now links.now }
     requires built { IsBuilt set.now }
     requires can { CanStep set.now (core_of run.old) }
+    requires stopped { TopStops links.now run.old.frames.items }
     ensures ok { IfOk result (λ end. Wrote (O.taken out.old) (O.taken out.new) (λ said. (input earlier : List ℕ) →
         Comes set.now (step set.now (state_of set.now (core_of run.old) input earlier)) end (core_of run.new) input (earlier ++ said))) }
     ensures err { OnErr result (Cut (O.taken out.old) (O.taken out.new) (λ input earlier. step set.now (state_of set.now (core_of run.old) input earlier))) }
@@ -261,6 +263,23 @@ pub fn step<O: Sink>(
     }
 }
 
+// Steps of plain rows in the running frame, at most so many; how many they were.
+fn move_on(set: &Set, links: &Links, most: u64, run: &mut Run) -> Result<u64, Memory>
+    requires linked { IsLinked set.now links.now }
+    requires built { IsBuilt set.now }
+    requires safe { IsSafe set.now (core_of run.old) }
+    ensures few { IfOk result (λ made. made ≤ most) }
+    ensures stops { IfOk result (λ made. made < most → TopStops links.now run.new.frames.items) }
+    ensures moved { IfOk result (λ made. (input out : List ℕ) → on_from set.now made (Going (state_of set.now (core_of run.old) input out)) ≡ Going (state_of set.now (core_of run.new) input out)) }
+{
+    let _set = set;
+    if run.frames.is_empty() {
+        return Ok(0);
+    }
+    let made = move_top_on(links, most, &mut run.frames)?;
+    Ok(made)
+}
+
 /// At most so many steps.
 pub fn run_on<O: Sink>(
     alloc: Global,
@@ -279,11 +298,18 @@ pub fn run_on<O: Sink>(
     ensures cause { HasCause (O.faults out.old) (O.faults out.new) result }
     ensures faults { O.faults out.old ≤ O.faults out.new }
 {
-    for _ in 0..steps {
+    let mut made = 0;
+    while made < steps {
+        let more = move_on(set, links, steps - made, run)?;
+        made += more;
+        if made >= steps {
+            return Ok(StepEnd::On);
+        }
         match step(alloc, set, links, run, out)? {
             StepEnd::On => {}
             other => return Ok(other),
         }
+        made += 1;
     }
     Ok(StepEnd::On)
 }

@@ -6,7 +6,7 @@ use Rattle.class_machine.proofs.frames.in_top.Goals as goal
 pub returns : goal.returns
 returns c =
     let frames = c.args.frames.now.items in
-    let some = nonempty frames c.requires.top c.requires.below c.requires.is in
+    let some = nonempty frames c.requires.goes.top c.requires.goes.below c.requires.goes.is in
     let at : c.len-top.result - 1 ≡ length frames - 1 = omega (arith, c.len-top.ensures) in
     record {
       before = c.index_mut.result.now;

@@ -5,6 +5,6 @@ use Rattle.class_machine.proofs.linking.link_classes.Given as goal
 
 abbrev pub invariant-loop-class : goal.invariant-loop-class
 invariant-loop-class l = record {
-  done : map parts l.linked.items ≡ all_parts l.classes 0 (take l.class-index l.classes);
+  done : map parts l.linked.items ≡ all_parts l.set.classes 0 (take l.class-index l.set.classes);
   count : length l.linked.items ≡ l.class-index;
 }

@@ -8,4 +8,4 @@ use Rattle.class_machine.proofs.rows.int_binary.Goals as goal
 pub pop_int-y-requires : goal.pop_int-y-requires
 pop_int-y-requires c =
     int_on_top (reverse c.args.f.now.stack.items)
-    (λ y rest. on_int rest (λ x below. or_zero_divisor (int_answer c.args.o x y) (λ n. Goes c.args.next c.args.f.now.locals.items (Int n ∷ below)))) c.requires
+    (λ y rest. on_int rest (λ x below. or_zero_divisor (int_answer c.args.o x y) (λ n. Goes c.args.next c.args.f.now.locals.items (Int n ∷ below)))) c.requires.goes

@@ -8,4 +8,4 @@ use Rattle.class_machine.proofs.rows.long_binary.Goals as goal
 pub pop_long-y-requires : goal.pop_long-y-requires
 pop_long-y-requires c =
     long_on_top (reverse c.args.f.now.stack.items)
-    (λ y rest. on_long rest (λ x below. or_zero_divisor (long_answer c.args.o x y) (λ n. Goes c.args.next c.args.f.now.locals.items (Long n ∷ below)))) c.requires
+    (λ y rest. on_long rest (λ x below. or_zero_divisor (long_answer c.args.o x y) (λ n. Goes c.args.next c.args.f.now.locals.items (Long n ∷ below)))) c.requires.goes

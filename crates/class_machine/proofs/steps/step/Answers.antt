@@ -7,6 +7,7 @@ use Rattle.class_machine.specs.declared.run.StepEnd.TheVariants as «end»
 use Rattle.class_machine.specs.Core.{core_of, state_of, frames_of}
 use Rattle.class_machine.specs.Heaps.{objects_of}
 use Rattle.class_machine.proofs.Running.{nonempty}
+use Rattle.class_machine.proofs.Moving.{running_stops}
 use Rattle.class_machine.proofs.Stepping.{on_err, cut_nothing, cut_same, wrote_nothing, wrote_same, comes_same, step_keeps, running_op, running_goes, no_frames, top_needs, top_can, top_built, top_call, top_on, top_threw, top_returned, top_can_return, top_compared}
 use Rattle.class_machine.proofs.steps.step.Goals as goal
 
@@ -24,8 +25,12 @@ pub op_at-op-requires : goal.op_at-op-requires
 op_at-op-requires g c =
     running_op c.args.set.now c.args.links.now (core_of c.args.run.now) c.args.run.now.frames.items c.deref.result.now c.running-frame.result.now refl c.deref.ensures.value c.running-frame.ensures c.requires.linked c.requires.built c.requires.can
 
-pub in_top-requires : goal.in_top-requires
-in_top-requires g c =
+pub in_top-requires-clause-other : goal.in_top-requires-clause-other
+in_top-requires-clause-other g c =
+    running_stops c.args.links.now c.args.run.now.frames.items c.deref.result.now c.running-frame.result.now c.op_at-op.result c.requires.stopped c.deref.ensures.value c.running-frame.ensures c.op_at-op.ensures
+
+pub in_top-requires-clause-goes : goal.in_top-requires-clause-goes
+in_top-requires-clause-goes g c =
     running_goes c.args.set.now c.args.links.now (core_of c.args.run.now) c.args.run.now.frames.items c.deref.result.now c.running-frame.result.now refl c.deref.ensures.value c.running-frame.ensures c.requires.linked c.requires.built c.requires.can c.op_at-op.result c.op_at-op.ensures
 
 pub load-requires-clause-can : goal.load-requires-clause-can
