@@ -1,13 +1,17 @@
 -- The class of a program is compiled code of it.
-use Rattle.std.proofs.Common.{◌≡◌, ℕ, List, [], ◌∷◌, Some, sym, ap, ◌∙◌, get_or}
+use Rattle.std.proofs.Common.{◌≡◌, ℕ, List, [], ◌∷◌, Some, sym, ap, ◌∙◌, subst, get_or, arith}
+use Rattle.std.specs.Option.{unwrap_or}
 use Rattle.std.specs.Prelude.{slice_get, codes}
 use Rattle.kc_core.specs.declared.tree.Function.{Function}
 use Rattle.kc_core.specs.declared.tree.Program.{Program}
+use Rattle.kc_core.specs.Formed.{FormedMain, MainFormed}
 use Rattle.class_file.specs.declared.class.ClassFile.{ClassFile}
 use Rattle.class_file.specs.declared.class.Method.{Method}
 use Rattle.stack_code.specs.Agrees.{IsCodeOf, IsCompiled, IsOwnName}
 use Rattle.stack_code.specs.Frames.{IsFramed}
-use Rattle.kc_cli.specs.Compiled.{Compiles}
+use Rattle.form_elaboration.specs.Form.{Form}
+use Rattle.form_elaboration.specs.Light.{ProgramsAreLight}
+use Rattle.kc_cli.specs.Compiled.{Compiles, MainIsSmall}
 
 first_function : (fs : List Function) (f g : Function) → slice_get fs 0 ≡ Some g → f ≡ get_or fs 0 f → f ≡ g
 first_function [] f g h e = cc
@@ -52,3 +56,14 @@ compiles p fs f g c m main classes one list first there named own alone method c
   compiled = is_compiled p fs f g c m main classes one list first there named own alone method code;
   framed = framed;
 }
+
+-- a light function fits
+pub main_is_small : (bytes : List ℕ) (program : Program) → ProgramsAreLight → Form 0 bytes program → MainFormed program 0 → MainIsSmall program
+main_is_small bytes program light form formed f is =
+    let l = light 0 bytes program form 0 f is in
+    record {
+      formed = subst FormedMain (ap (λ o. unwrap_or o f) (sym formed.1 ∙ is)) formed.2;
+      weight = omega (arith, l.weight);
+      locals = omega (arith, l.locals);
+      room = omega (arith, l.weight);
+    }

@@ -3,14 +3,13 @@
 ghost use Rattle.std.specs.Prelude.{◌≡◌, ◌∷◌, [], IfOk, codes};
 ghost use Rattle.stack_code.specs.Agrees.{IsOwnName};
 ghost use Rattle.form_elaboration.specs.Laws.{HasMain};
-ghost use Rattle.kc_cli.specs.Compiled.{Compiles, HasShortCode};
+ghost use Rattle.kc_cli.specs.Compiled.{Compiles, HasShortCode, MainIsSmall};
 
 use class_file::class::{ClassFile, Method, Set};
 use class_file::pool::Pool;
 use kc_core::tree::Program;
 use kc_text::{Fail, Memory, Text};
 use sqlite_items::Items;
-use stack_code::constants::TooLarge;
 use stack_code::method::emit_function;
 use std::alloc::Global;
 
@@ -45,12 +44,11 @@ fn class_of(alloc: Global, name: Text, pool: Pool, method: Method) -> Result<Cla
     })
 }
 
-/// The class of this name, with the program's `main` as its one method, as a set of its own.
-///
-/// It is `TooLarge` only where the code has more than 65,535 bytes, `main` more than 65,535 locals or operands at once, the class
-/// more than 65,534 constants, or a jump more than 32,767 bytes to pass.
-pub fn compile(alloc: Global, program: &Program, name: Text) -> Result<Set, Fail<TooLarge>>
+/// The class of this name, with the program's `main` as its one method, as a set of its own. `main` must be small, so that it is
+/// not too large for a class file.
+pub fn compile(alloc: Global, program: &Program, name: Text) -> Result<Set, Memory>
     requires main { HasMain program.now }
+    requires small { MainIsSmall program.now }
     requires own { IsOwnName name }
     ensures compiled { IfOk result (λ set. Compiles set program.now 0) }
     ensures named { IfOk result (λ set. set.main ≡ name) }
@@ -58,7 +56,12 @@ pub fn compile(alloc: Global, program: &Program, name: Text) -> Result<Set, Fail
 {
     let functions = program.functions.as_slice();
     let mut pool = Pool::new(alloc);
-    let method = emit_function(alloc, &mut pool, &functions[0])?;
+    let method = match emit_function(alloc, &mut pool, &functions[0]) {
+        Ok(method) => method,
+        Err(Fail::Memory) => return Err(Memory),
+        // `main` is small.
+        Err(Fail::Found(_)) => unreachable!(),
+    };
     let main = name.copy(alloc)?;
     let class = class_of(alloc, name, pool, method)?;
     let classes = alone(alloc, class)?;

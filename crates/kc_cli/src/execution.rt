@@ -14,7 +14,7 @@ use crate::{Code, Name, Report, class_name};
 use class_file::class::Set;
 use class_machine::{Machine, RunEnd, first_lot_is_built};
 use class_soundness::{first_lot_is_of_instructions, plain_sets_are_loaded};
-use form_elaboration::read_form;
+use form_elaboration::{programs_are_light, read_form};
 use kc_io::{Folder, FolderRead, Sink, Source};
 use kc_text::{Fail, Memory};
 use stack_code::method::{
@@ -71,6 +71,7 @@ fn build<'a>(alloc: Global, file: &Name<'a>, bytes: &[u8]) -> Result<Set, Report
         Ok(name) => name,
         Err(_) => return Err(Report::Memory),
     };
+    programs_are_light();
     files_have_own_names();
     compiled_is_first_lot();
     compiled_has_code();
@@ -78,7 +79,7 @@ fn build<'a>(alloc: Global, file: &Name<'a>, bytes: &[u8]) -> Result<Set, Report
     plain_sets_are_loaded();
     match compile(alloc, &program, name) {
         Ok(set) => Ok(set),
-        Err(_) => Err(Report::Memory),
+        Err(Memory) => Err(Report::Memory),
     }
 }
 
@@ -102,8 +103,9 @@ fn run_set<I: Source, O: Sink>(
     first_lot_is_of_instructions();
     let verified = match verify(alloc, set) {
         Ok(verified) => verified,
-        // The set verifies, so this is a want of memory.
-        Err(_) => return Report::Memory,
+        Err(Fail::Memory) => return Report::Memory,
+        // The set verifies.
+        Err(Fail::Found(_)) => unreachable!(),
     };
     let mut machine = match Machine::start_verified(alloc, &verified) {
         Ok(machine) => machine,

@@ -7,10 +7,10 @@ use Rattle.kc_cli.proofs.compile.compile.Goals as goal
 pub returns-clause-compiled : goal.returns-clause-compiled
 returns-clause-compiled c =
     let class = c.in_ok-class.class in
-    compiles c.args.program.now c.as_slice-functions.result.now c.index-functions-0.result c.requires.main.main class c.in_ok-method.method c.in_ok-main.main c.in_ok-classes.classes
+    compiles c.args.program.now c.as_slice-functions.result.now c.index-functions-0.result c.requires.main.main class c.in-Ok.method c.in_ok-main.main c.in_ok-classes.classes
     c.in_ok-classes.ensures c.as_slice-functions.ensures c.index-functions-0.is c.requires.main.is c.requires.main.named
     (subst IsOwnName (sym c.in_ok-main.ensures) c.requires.own)
     (record { name_is = c.in_ok-class.ensures.name ∙ sym c.in_ok-main.ensures; super_is = c.in_ok-class.ensures.above; methods_are = c.in_ok-class.ensures.methods })
-    (record { name_is = c.in_ok-method.ensures.name; descriptor_is = c.in_ok-method.ensures.descriptor; flags_are = c.in_ok-method.ensures.flags })
-    (subst (λ (p : Slots). IsCodeOf p c.in_ok-method.method c.index-functions-0.result) (sym c.in_ok-class.ensures.pool) c.in_ok-method.ensures.code)
-    (record { frames = c.in_ok-method.ensures.frames; deep = c.in_ok-method.ensures.deep })
+    (record { name_is = c.in-Ok.ensures.name; descriptor_is = c.in-Ok.ensures.descriptor; flags_are = c.in-Ok.ensures.flags })
+    (subst (λ (p : Slots). IsCodeOf p c.in-Ok.method c.index-functions-0.result) (sym c.in_ok-class.ensures.pool) c.in-Ok.ensures.code)
+    (record { frames = c.in-Ok.ensures.frames; deep = c.in-Ok.ensures.deep })

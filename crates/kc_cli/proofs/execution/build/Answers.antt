@@ -1,12 +1,16 @@
 use Rattle.std.proofs.Common.{sym, ap, ◌∙◌, subst}
 use Rattle.stack_code.specs.Agrees.{IsOwnName}
 use Rattle.kc_cli.specs.ClassName.{capitalized, class_name_of, last_part_of, without_ending}
+use Rattle.kc_cli.proofs.Compiled.{main_is_small}
 use Rattle.kc_cli.proofs.Executing.{builds}
 use Rattle.kc_cli.proofs.Loading.{loaded, verifies}
 use Rattle.kc_cli.proofs.execution.build.Goals as goal
 
 pub compile-requires-clause-main : goal.compile-requires-clause-main
 compile-requires-clause-main c = c.in-Ok.ensures.main.has_main
+
+pub compile-requires-clause-small : goal.compile-requires-clause-small
+compile-requires-clause-small c = main_is_small c.args.bytes.now c.in-Ok.program c.programs_are_light.ensures c.in-Ok.ensures.reads c.in-Ok.ensures.formed
 
 pub compile-requires-clause-own : goal.compile-requires-clause-own
 compile-requires-clause-own c =
