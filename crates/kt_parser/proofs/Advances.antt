@@ -1,15 +1,19 @@
 -- The steps of the parser where tests look farther than the next token.
-use Rattle.std.proofs.Common.{◌≡◌, ℕ, zero, suc, ◌+◌, ◌≤◌, max, Bool, true, false, List, [], ◌∷◌, ◌++◌, length, length-drop, drop, Result, Ok, Err, refl, sym, ap, subst, ◌∙◌, arith}
-use Rattle.grammars.specs.Grammar.{Test, next, Part, one, row, both, choose, many, Cst, none, node, pair, first, test, Settled, Productive, Begun}
-use Rattle.grammars.proofs.Later.{begun_row, begun_left, begun_right, begun_turn, begun_first, begun_second, begun_more, begun_of, productive, Dead, dead_of, dead_later, dead_row, dead_first, dead_left, dead_right, dead_turn, dead_second, dead_more, stuck_of}
+use Rattle.std.proofs.Common.{◌≡◌, ℕ, zero, suc, ◌+◌, ◌<◌, ◌≤◌, max, inl, inr, Bool, true, false, List, [], ◌∷◌, ◌++◌, length, length-append, length-drop, drop, Result, Ok, Err, refl, sym, ap, subst, ◌∙◌, arith}
+use Rattle.grammars.specs.Grammar.{Test, next, Part, one, row, both, choose, many, Cst, none, node, pair, first, test, Settled, Productive, Begun, guard, r_guard}
+use Rattle.grammars.specs.Tables.{is_empty}
+use Rattle.grammars.proofs.Refusals.{stuck_one, stuck_unguarded}
+use Rattle.grammars.proofs.Later.{begun_here, begun_guard, dead_guard, begun_row, begun_left, begun_right, begun_turn, begun_first, begun_second, begun_more, begun_of, productive, Dead, dead_of, dead_later, dead_row, dead_first, dead_left, dead_right, dead_turn, dead_second, dead_more, stuck_of}
 use Rattle.kc_text.specs.declared.errors.Fail.{Fail}
 use Rattle.kc_text.specs.declared.errors.Fail.TheVariants.{Found, Memory}
 use Rattle.kt_lexer.specs.declared.token.Token.{Token}
 use Rattle.kt_parser.specs.declared.cursor.Cursor.{Cursor}
 use Rattle.kt_parser.specs.Parsed.{Read, Refused, found, no_memory, Parses, Advanced, Halts, halt, halt_memory, Advances, ResumesOn, Taken}
+use Rattle.kt_parser.specs.Moves.{Moved}
 use Rattle.kt_parser.specs.Behind.{behind}
 use Rattle.kt_parser.specs.Rows.{Row, grammar}
-use Rattle.kt_parser.proofs.Steps.{settled_on, fewer_behind, BegunAt, begun_farther, read_one, read_both, read_row, read_turn, read_done, behind_stuck}
+use Rattle.kt_parser.proofs.Progress.{empty, shortens, goes_on}
+use Rattle.kt_parser.proofs.Steps.{by_order, begun_to, covered, settled_on, fewer_behind, BegunAt, begun_farther, read_one, read_both, read_row, read_turn, read_done, behind_stuck}
 
 -- ---- refusals
 
@@ -176,3 +180,50 @@ level_from n m part lower turns whole is law {ts = ts} {start = start} p (Err e)
 
 pub level_halts : (n m : Row) (part : Part Row Token) → grammar n ≡ both (row m) part → Productive grammar part → {ts : List Token} {start : Cursor} {e : Fail ℕ} → Halts (row m) ts start e → Halts (row n) ts start e
 level_halts n m part is p {ts = ts} {start = start} {e = e} k = halts_row (subst (λ b. Halts b ts start e) (sym is) (halts_first p k))
+
+-- ---- parts that have to begin with certain tokens
+
+-- something is gone over where a place is farther
+gone : {a : Part Row Token} (ts : List Token) (at place : ℕ) (k : Begun grammar a (drop at ts) (drop place ts)) → at < place → place ≤ length ts → 0 < length k.before
+gone ts at place k h w = omega (arith, h, w, ap length k.split, length-append k.before (drop place ts), length-drop at ts, length-drop place ts)
+
+begun_guarded : (f : Token → Bool) (a : Part Row Token) (ts : List Token) (at place : ℕ) → test f (first (drop at ts)) ≡ true → Productive grammar (guard (next f) a) → at ≤ place → place ≤ length ts
+    → BegunAt a ts at place → BegunAt (guard (next f) a) ts at place
+begun_guarded f a ts at place h p le w k =
+    elim (by_order place at) [ inl s ↦ begun_to (guard (next f) a) ts at at place (omega (arith, s, le)) (begun_here grammar (drop at ts) p) | inr s ↦ begun_guard grammar h k (gone ts at place k s w) ]
+
+pub refused_guard : {f : Token → Bool} {a : Part Row Token} {ts : List Token} {at place : ℕ} → at ≤ length ts → test f (first (drop at ts)) ≡ true → Productive grammar (guard (next f) a)
+    → Refused a ts at place → Refused (guard (next f) a) ts at place
+refused_guard {f = f} {a = a} {ts = ts} {at = at} {place = place} v h p r = record {
+  stuck = stuck_of grammar (begun_guarded f a ts at place h p (not_before v r) r.within (begun_of grammar r.stuck)) (dead_guard grammar (dead_of grammar r.stuck));
+  within = r.within;
+}
+
+pub refused_unguarded : {f : Token → Bool} {a : Part Row Token} {ts : List Token} {at : ℕ} → at ≤ length ts → test f (first (drop at ts)) ≡ false → Productive grammar (guard (next f) a)
+    → Refused (guard (next f) a) ts at at
+refused_unguarded {ts = ts} {at = at} v h p = record { stuck = stuck_unguarded grammar (drop at ts) h refl p; within = v }
+
+pub read_guard : {f : Token → Bool} {a : Part Row Token} {ts : List Token} {at end looked : ℕ} {x : Cst Token} → is_empty empty a ≡ false → test f (first (drop at ts)) ≡ true
+    → Read a ts at end looked x → Read (guard (next f) a) ts at end looked (node x)
+read_guard {f = f} {ts = ts} {at = at} {end = end} {looked = looked} z h p =
+    let l : at < end = goes_on z p in
+    record {
+      reads = r_guard h p.reads (omega (arith, shortens z p));
+      settled = (covered (next f) ts at end looked (omega (arith, l)) p.within p.seen, p.settled);
+      begun = begun_guard grammar h p.begun (gone ts at (max end looked) p.begun (omega (arith, l)) (omega (arith, p.within, p.seen)));
+      ahead = p.ahead;
+      within = p.within;
+      seen = p.seen;
+    }
+
+pub not_guarded : {f : Token → Bool} {a : Part Row Token} {ts : List Token} {start : Cursor} {e : Fail ℕ} → start.at ≤ length ts → test f (first (drop start.at ts)) ≡ false → Productive grammar (guard (next f) a)
+    → e ≡ (let x : Fail ℕ = Found (max start.looked start.at) in x) → Halts (guard (next f) a) ts start e
+not_guarded {f = f} {a = a} {ts = ts} {start = start} v h p i = subst (λ x. Halts (guard (next f) a) ts start x) (sym i) (halt (refused_unguarded v h p) refl)
+
+-- no token that the test holds of stands at the place
+pub not_one : {f : Token → Bool} {ts : List Token} {start : Cursor} {e : Fail ℕ} (t : Token) → f t ≡ true → start.at ≤ length ts → test f (first (drop start.at ts)) ≡ false
+    → e ≡ (let x : Fail ℕ = Found (max start.looked start.at) in x) → Halts (one f) ts start e
+not_one {f = f} {ts = ts} {start = start} t w v h i = subst (λ x. Halts (one f) ts start x) (sym i) (halt (record { stuck = stuck_one grammar f (drop start.at ts) h t w; within = v }) refl)
+
+pub moves : {f : Token → Bool} {ts : List Token} {start end : Cursor} {n : ℕ} → Taken f ts start.at n → end ≡ record { at = n; looked = start.looked } → Moved f ts start end
+moves {f = f} {ts = ts} {start = start} o e = subst (λ (c : Cursor). Moved f ts start c) (sym e) (record { taken = o; so_far = refl })

@@ -7,3 +7,4 @@ pub mod Progress
 pub mod TypeRows
 pub mod NameRows
 pub mod OperandRows
+pub mod ArrowRows

@@ -136,7 +136,7 @@ marks_end t x w h = record { tree = none; read = read_done w h; builds = refl }
 
 -- ---- places
 
-first_taken : {f : Token → Bool} {ts : List Token} {at end : ℕ} (o : Taken f ts at end) → first (drop at ts) ≡ Some o.token
+pub first_taken : {f : Token → Bool} {ts : List Token} {at end : ℕ} (o : Taken f ts at end) → first (drop at ts) ≡ Some o.token
 first_taken o = ap first o.here
 
 abbrev pub stretch : List Token → ℕ → ℕ → Span
@@ -167,7 +167,7 @@ pub named_alike : {s s' : Span} {ws ws' : List Word} {gs gs' : List TypeArg} →
     → (let t : «Type» = record { span = s; kind = type_kind.Named ws gs } in t) ≡ record { span = s'; kind = type_kind.Named ws' gs' }
 named_alike p q r = cc
 
-fun_alike : {s s' : Span} {ps ps' : List «Type»} {x x' : «Type»} → s ≡ s' → ps ≡ ps' → x ≡ x'
+pub fun_alike : {s s' : Span} {ps ps' : List «Type»} {x x' : «Type»} → s ≡ s' → ps ≡ ps' → x ≡ x'
     → (let t : «Type» = record { span = s; kind = type_kind.Fun ps x } in t) ≡ record { span = s'; kind = type_kind.Fun ps' x' }
 fun_alike p q r = cc
 

@@ -8,3 +8,4 @@ pub mod Built
 pub mod Examples
 pub mod Behind
 pub mod Parsed
+pub mod Moves

@@ -1,6 +1,7 @@
 //! The grammar of types, expressions and statements, and the parser of types (Kotlin Language Specification 1.9, "Syntax grammar").
 #![tactic(auto)]
 
+mod arrows;
 mod cursor;
 mod locals;
 mod lookahead;
@@ -10,6 +11,7 @@ mod types;
 
 ghost use Rattle.kt_parser.specs.Examples.{OperatorsRead, CallsRead, TypeArgumentsRead, ElsesRead, StatementsRead, FunctionTypesRead, MarksRead, ListsRead, ComparisonsRead, ClausesRead, TreesBuilt, PlacesBuilt};
 
+pub use arrows::type_before_arrow;
 pub use cursor::Cursor;
 pub use locals::{bare_names, colon_type, names, typed_name};
 pub use lookahead::{

@@ -1,6 +1,7 @@
 //! Types of small texts: the place behind each, or the place at which it is refused.
 use super::*;
 use kc_text::{Fail, Names, Text};
+use kc_tree::Type;
 use kt_lexer::{Token, tokens};
 use sqlite_items::Items;
 use std::alloc::Global;
@@ -20,10 +21,33 @@ fn cut(alloc: Global, source: &str) -> Result<Items<Token>, Failed> {
     }
 }
 
+/// Where a type stands.
+#[derive(Clone, Copy)]
+enum Standing {
+    Alone,
+    Operand,
+    BeforeArrow,
+}
+
+fn without_looks(found: Result<(Type, Cursor), Fail<usize>>) -> Result<(Type, usize), Fail<usize>> {
+    let (ty, end) = found?;
+    Ok((ty, end.at))
+}
+
+/// The type at the start.
+fn read(alloc: Global, tokens: &[Token], standing: Standing) -> Result<(Type, usize), Fail<usize>> {
+    let start = Cursor { at: 0, looked: 0 };
+    match standing {
+        Standing::Alone => type_at(alloc, tokens, 0),
+        Standing::Operand => without_looks(operand_type(alloc, tokens, start)),
+        Standing::BeforeArrow => without_looks(type_before_arrow(alloc, tokens, start)),
+    }
+}
+
 /// How many tokens the type at the start has, and its place, or the fault's place.
-fn shown(alloc: Global, source: &str) -> Result<String, Failed> {
+fn shown(alloc: Global, source: &str, standing: Standing) -> Result<String, Failed> {
     let found = cut(alloc, source)?;
-    let line = match type_at(alloc, found.as_slice(), 0) {
+    let line = match read(alloc, found.as_slice(), standing) {
         Ok((ty, end)) => {
             format!(in alloc;
                 "{} of {}, {} to {}",
@@ -62,7 +86,54 @@ fn reads_types(rt: HostRuntime) -> Result<(), Failed> {
     ];
     for (source, expected) in table {
         assert_eq!(rt;
-            shown(rt.alloc(), source)?.as_str(),
+            shown(rt.alloc(), source, Standing::Alone)?.as_str(),
+            expected,
+            "of {source:?}"
+        );
+    }
+    Ok(())
+}
+
+#[test]
+fn reads_types_of_operands(rt: HostRuntime) -> Result<(), Failed> {
+    let table = [
+        ("A < b", "1 of 3, 0 to 1"),
+        ("A<b>", "4 of 4, 0 to 4"),
+        ("A<b, c d", "1 of 6, 0 to 1"),
+        ("(A) -> B<c>?", "9 of 9, 0 to 12"),
+        ("(A, B", "fault 4"),
+        ("?", "fault 0"),
+    ];
+    for (source, expected) in table {
+        assert_eq!(rt;
+            shown(rt.alloc(), source, Standing::Operand)?.as_str(),
+            expected,
+            "of {source:?}"
+        );
+    }
+    Ok(())
+}
+
+#[test]
+fn reads_types_before_arrows(rt: HostRuntime) -> Result<(), Failed> {
+    let table = [
+        ("A -> b", "1 of 3, 0 to 1"),
+        ("A<B>? -> b", "5 of 7, 0 to 5"),
+        ("(A) -> b }", "3 of 6, 1 to 2"),
+        ("(A) -> b -> c", "5 of 7, 0 to 8"),
+        ("(A) -> b, c", "5 of 7, 0 to 8"),
+        ("(A) -> (B)?, c", "8 of 10, 0 to 11"),
+        ("((A) -> B) -> c -> d", "9 of 11, 0 to 15"),
+        ("() -> A", "4 of 4, 0 to 7"),
+        ("(A, B) -> c", "7 of 7, 0 to 11"),
+        ("(A, B) c", "fault 5"),
+        ("() A", "fault 2"),
+        ("(A", "fault 2"),
+        ("-> A", "fault 0"),
+    ];
+    for (source, expected) in table {
+        assert_eq!(rt;
+            shown(rt.alloc(), source, Standing::BeforeArrow)?.as_str(),
             expected,
             "of {source:?}"
         );

@@ -28,7 +28,8 @@ fn nullable(alloc: Global, span: Span, inner: Type) -> Result<Type, AllocError>
     })
 }
 
-fn function(
+/// A function type.
+pub fn function(
     alloc: Global,
     span: Span,
     parameters: Items<Type>,
@@ -121,8 +122,9 @@ fn core_type(alloc: Global, tokens: &[Token], at: usize) -> Result<(Type, usize)
     named_type(alloc, tokens, at)
 }
 
+/// A name, with type arguments where `<` stands behind it.
 #[cycle(types)]
-fn named_type(alloc: Global, tokens: &[Token], at: usize) -> Result<(Type, usize), Fail<usize>>
+pub fn named_type(alloc: Global, tokens: &[Token], at: usize) -> Result<(Type, usize), Fail<usize>>
     requires { at ≤ length tokens.now }
     ensures { Parses (both (row rows.dotted) (choose (next (is_op operators.Less)) (row rows.type_arguments) nothing)) built.named_of tokens.now at result }
 {
@@ -200,7 +202,7 @@ fn result_type(alloc: Global, tokens: &[Token], at: usize) -> Result<(Type, usiz
 
 /// The first type of a list and those that follow its comma.
 #[cycle(types)]
-fn more_types(
+pub fn more_types(
     alloc: Global,
     tokens: &[Token],
     head: Type,
