@@ -1,10 +1,10 @@
 -- What the core's relation has is in the whole one.
-use Rattle.std.proofs.Common.{◌≡◌, ℕ, zero, suc, ◌<◌, Bool, true, false, nat_eq, List, [], ◌∷◌, cond, ◌||◌, refl, sym, ap, subst, ◌∙◌, eqb-true, eq-eqb, arith}
-use Rattle.kc_types.specs.Types.{Ty, Class, Param, Nothing, Nullable, Exact, Args, none, more, Variance, HeadParam, Heads, nullable, is_own, up, class_given}
-use Rattle.kc_types.specs.Supertypes.{Supertype, put, put_args, put_in, own_args}
+use Rattle.std.proofs.Common.{◌≡◌, ℕ, zero, suc, ◌<◌, Bool, true, false, nat_eq, List, [], ◌∷◌, cond, ◌||◌, refl, sym, ap, subst, ◌∙◌, ◌⊎◌, inl, inr, eqb-true, eq-eqb, arith}
+use Rattle.kc_types.specs.Types.{Ty, Class, Param, Nothing, Nullable, Exact, Args, none, more, Variance, HeadParam, Heads, nullable, is_own, up, class_given, star_bound}
+use Rattle.kc_types.specs.Supertypes.{IsIn, Supertype, put, put_args, put_in, own_args}
 use Rattle.kc_types.specs.Supertypes.Supertype.{own, next}
 use Rattle.kc_types.specs.Subtype.{Sub, All, In_arg, read}
-use Rattle.kc_types.specs.Subtype.Sub.{same, through, nothing, any, null, nulls, super, arguments}
+use Rattle.kc_types.specs.Subtype.Sub.{same, through, nothing, any, null, nulls, object, super, arguments}
 use Rattle.kc_types.specs.Subtype.All.{end, next as next_arg}
 use Rattle.kc_types.specs.Subtype.In_arg.{out_out, in_in, exact}
 use Rattle.kc_types.specs.Core as core
@@ -111,7 +111,7 @@ first_of : (b : Bool) (t u : Ty) → b ≡ true → cond b t u ≡ t
 first_of true t u e = refl
 first_of false t u e = no e
 
-second_of : (b : Bool) (t u : Ty) → b ≡ false → cond b t u ≡ u
+pub second_of : (b : Bool) (t u : Ty) → b ≡ false → cond b t u ≡ u
 second_of false t u e = refl
 second_of true t u e = no (sym e)
 
@@ -177,12 +177,28 @@ module _ (part : core.Heads) (valid : Valid part) (h : Heads) (is : CoreOf h par
   fits [] (v ∷ vs) zs m n = absurd m
   fits (p ∷ ps) [] zs m n = absurd m
 
-  super_in : {c d : ℕ} {zs : core.Args} → core.Supertype part c d zs → Supertype h c (Class d (whole_args (parameter_at (h.params c)) zs))
-  super_in {c = c} core_own = subst (λ us. Supertype h c (Class c us)) (own_in (h.params c) (part.vars c) (is.variances c)) own
-  super_in {c = c} (core_next {d = d} {zs = zs} {s = x} st i) =
-      subst (λ us. Supertype h c (Class x.class us))
-      (all_in_place (parameter_at (h.params c)) (h.params d) zs (fits (h.params d) (part.vars d) zs (is.variances d) (super_kinded part valid st)) (is.different d) x.args)
-      (next (super_in st) (is.supers d x i))
+  none_in : {A : Type 0} (x : A) (xs : List A) → xs ≡ [] → IsIn A x xs → ⊥
+  none_in x xs e i = let j : IsIn _ x [] = subst (λ ys. IsIn _ x ys) e i in elim j [ ]
+
+  -- each supertype is one of the whole, or the class of all objects
+  abbrev Super_in : ℕ → ℕ → core.Args → Type 0
+  Super_in c d zs = (d ≡ part.any) ⊎ Supertype h c (Class d (whole_args (parameter_at (h.params c)) zs))
+
+  next_in : (c d : ℕ) (zs : core.Args) (x : core.Super) → All_kinded part (part.vars d) zs → IsIn core.Super x (part.supers d) → Super_in c d zs → Super_in c x.class (core.puts (core.at zs) x.args)
+  next_in c d zs x n i (inl e) = absurd (none_in x (part.supers d) (ap part.supers e ∙ valid.alone) i)
+  next_in c d zs x n i (inr st) = elim (is.supers d x i) [
+    | inl e ↦ inl e
+    | inr j ↦ inr (subst (λ us. Supertype h c (Class x.class us)) (all_in_place (parameter_at (h.params c)) (h.params d) zs (fits (h.params d) (part.vars d) zs (is.variances d) n) (is.different d) x.args) (next st j))
+  ]
+
+  super_in : {c d : ℕ} {zs : core.Args} → core.Supertype part c d zs → Super_in c d zs
+  super_in {c = c} core_own = inr (subst (λ us. Supertype h c (Class c us)) (own_in (h.params c) (part.vars c) (is.variances c)) own)
+  super_in {c = c} (core_next {d = d} {zs = zs} {s = x} st i) = next_in c d zs x (super_kinded part valid st) i (super_in st)
+
+  no_arguments : (vs : List core.Variance) (zs : core.Args) → vs ≡ [] → All_kinded part vs zs → zs ≡ core.none
+  no_arguments [] core.none e n = refl
+  no_arguments [] (core.more z zs) e n = absurd n
+  no_arguments (v ∷ vs) zs e n = absurd (cc)
 
   module _ (s : ℕ → Ty) where
     up_in : (c d : ℕ) (xs zs : core.Args) → All_kinded part (part.vars c) xs →
@@ -194,6 +210,12 @@ module _ (part : core.Heads) (valid : Valid part) (h : Heads) (is : CoreOf h par
     read_as : (p : HeadParam) (v : Variance) (top : Ty) (a b : Ty) → p.variance ≡ v → In_arg h top (read v (Exact a)) (read v (Exact b)) → In_arg h top (read p.variance (Exact a)) (read p.variance (Exact b))
     read_as p v top a b e d = subst (λ q. In_arg h top (read q (Exact a)) (read q (Exact b))) (sym e) d
 
+    super_sub : (c d : ℕ) (xs zs : core.Args) → All_kinded part (part.vars c) xs → All_kinded part (part.vars d) zs → Super_in c d zs → Sub h (whole s (core.Class c xs)) (whole s (core.Class d (core.puts (core.at xs) zs)))
+    super_sub c d xs zs n k (inl e) =
+        subst (λ ws. Sub h (Class c (whole_args s xs)) (Class d (whole_args s (core.puts (core.at xs) ws)))) (sym (no_arguments (part.vars d) zs (ap part.vars e ∙ valid.plain) k))
+        (subst (λ q. Sub h (Class c (whole_args s xs)) (Class q none)) (sym (e ∙ is.any)) object)
+    super_sub c d xs zs n k (inr st) = subst (λ t. Sub h (Class c (whole_args s xs)) t) (up_in c d xs zs n) (super st)
+
     mutual
       pub sub_in : {a b : core.Ty} → core.Sub part a b → Sub h (whole s a) (whole s b)
       sub_in (core_same n) = same
@@ -202,10 +224,10 @@ module _ (part : core.Heads) (valid : Valid part) (h : Heads) (is : CoreOf h par
       sub_in (core_any {a = a} n) = subst (λ c. Sub h (whole s a) (Nullable (Class c none))) (sym is.any) any
       sub_in (core_null {a = a} n) = null_in h (whole s a)
       sub_in (core_nulls {a = a} {b = b} d) = nulls_in h (whole s a) (whole s b) (sub_in d)
-      sub_in (core_super {c = c} {d = d} {xs = xs} {zs = zs} st n) = subst (λ t. Sub h (Class c (whole_args s xs)) t) (up_in c d xs zs n) (super (super_in st))
-      sub_in (core_arguments {c = c} {xs = xs} {ys = ys} n d) = arguments (all_in (h.params c) (h.params c) (is.variances c) d)
+      sub_in (core_super {c = c} {d = d} {xs = xs} {zs = zs} st n) = super_sub c d xs zs n (super_kinded part valid st) (super_in st)
+      sub_in (core_arguments {c = c} {xs = xs} {ys = ys} n d) = arguments (all_in (star_bound h c) (h.params c) (is.variances c) d)
 
-      all_in : (all ps : List HeadParam) {vs : List core.Variance} {xs ys : core.Args} → Matches ps vs → core.All part vs xs ys → All h all ps (whole_args s xs) (whole_args s ys)
+      all_in : (all : HeadParam → Ty) (ps : List HeadParam) {vs : List core.Variance} {xs ys : core.Args} → Matches ps vs → core.All part vs xs ys → All h all ps (whole_args s xs) (whole_args s ys)
       all_in all [] m core_end = end
       all_in all (p ∷ ps) m core_end = absurd m
       all_in all [] m (out_next d ds) = absurd m
@@ -242,6 +264,6 @@ pub has_whole : CoreHasWhole
 has_whole n part = record {
   variances = λ c. numbered_matches part.any 0 (part.vars c);
   different = λ c. numbered_different part.any 0 (part.vars c);
-  supers = λ c s i. map_in (whole_super (numbered part.any 0 (part.vars c))) s (part.supers c) i;
+  supers = λ c s i. inr (map_in (whole_super (numbered part.any 0 (part.vars c))) s (part.supers c) i);
   any = refl;
 }

@@ -1,6 +1,6 @@
 -- Where no argument is a projection, to take a type upwards or downwards is to put the arguments in.
 use Rattle.std.proofs.Common.{◌≡◌, ℕ, Bool, true, false, nat_eq, List, [], ◌∷◌, Option, Some, None, cond, ◌||◌, refl, ap, ◌∙◌}
-use Rattle.kc_types.specs.Types.{Ty, Class, Param, Nothing, Nullable, Arg, Exact, Out, In, Star, Args, none, more, Variance, Invariant, Covariant, Contravariant, HeadParam, Heads, Given, nullable, is_projection, given, is_given_projection, names, names_arg, names_args, value_up, value_down, alone, variance_at, rest_of, projected, exact_up, flat, down_arg, unless_against, blocked, up, down, up_arg, up_args, down_args, each_up, each_down, given_all, class_given, reduced, reduced_args}
+use Rattle.kc_types.specs.Types.{Ty, Class, Param, Nothing, Nullable, Arg, Exact, Out, In, Star, Args, none, more, Variance, Invariant, Covariant, Contravariant, HeadParam, Heads, Given, nullable, is_projection, given, is_given_projection, names, names_arg, names_args, value_up, value_down, alone, variance_at, rest_of, projected, exact_up, flat, down_arg, unless_against, blocked, up, down, up_arg, up_args, down_args, each_up, each_down, given_all, class_given, reduced, reduced_args, star_bound}
 use Rattle.kc_types.specs.Formed.{Exact_args}
 use Rattle.kc_types.specs.Supertypes.{put, put_arg, put_args, put_in}
 use Rattle.kc_types.specs.Subtype.{read}
@@ -151,7 +151,7 @@ given_picked : (b : Bool) (g : Given) (o : Option Given) → is_projection g.arg
 given_picked true g o e f = e
 given_picked false g o e f = f
 
-pub given_exact : (all ps : List HeadParam) (xs : Args) → Exact_args xs → (x : ℕ) → is_given_projection (given (given_all all ps xs) x) ≡ false
+pub given_exact : (all : HeadParam → Ty) (ps : List HeadParam) (xs : Args) → Exact_args xs → (x : ℕ) → is_given_projection (given (given_all all ps xs) x) ≡ false
 given_exact all [] xs e x = refl
 given_exact all (p ∷ ps) none e x = refl
 given_exact all (p ∷ ps) (more (Exact t) xs) e x = given_picked (nat_eq p.var x) (record { var = p.var; arg = Exact t; top = _ }) (given (given_all all ps xs) x) refl (given_exact all ps xs e x)
@@ -163,7 +163,7 @@ value_picked : (b : Bool) (x y : ℕ) (t top : Ty) (o : Option Given) (w : Ty) �
 value_picked true x y t top o w e = refl
 value_picked false x y t top o w e = e
 
-value_put : (all ps : List HeadParam) (xs : Args) → Exact_args xs → (x : ℕ) → value_up x (given (given_all all ps xs) x) ≡ put_in ps xs x
+value_put : (all : HeadParam → Ty) (ps : List HeadParam) (xs : Args) → Exact_args xs → (x : ℕ) → value_up x (given (given_all all ps xs) x) ≡ put_in ps xs x
 value_put all [] xs e x = refl
 value_put all (p ∷ ps) none e x = refl
 value_put all (p ∷ ps) (more (Exact t) xs) e x = value_picked (nat_eq p.var x) x p.var t _ (given (given_all all ps xs) x) (put_in ps xs x) (value_put all ps xs e x)
@@ -199,5 +199,5 @@ reduced_exact (p ∷ ps) (more Star xs) e = absurd e
 -- upwards from arguments that are types
 pub up_is_put : (h : Heads) (c : ℕ) (xs : Args) → Exact_args xs → (t : Ty) → Plain t → up h (class_given h c xs) t ≡ put (put_in (h.params c) xs) t
 up_is_put h c xs e t p =
-    ap (λ ys. up h (given_all (h.params c) (h.params c) ys) t) (reduced_exact (h.params c) xs e) ∙
-    up_plain h (given_all (h.params c) (h.params c) xs) (given_exact (h.params c) (h.params c) xs e) (put_in (h.params c) xs) (value_put (h.params c) (h.params c) xs e) t p
+    ap (λ ys. up h (given_all (star_bound h c) (h.params c) ys) t) (reduced_exact (h.params c) xs e) ∙
+    up_plain h (given_all (star_bound h c) (h.params c) xs) (given_exact (star_bound h c) (h.params c) xs e) (put_in (h.params c) xs) (value_put (star_bound h c) (h.params c) xs e) t p

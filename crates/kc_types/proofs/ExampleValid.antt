@@ -1,6 +1,6 @@
 -- The heads of the examples are valid.
-use Rattle.std.proofs.Common.{◌≡◌, ℕ, zero, suc, ◌<◌, ◌≤◌, Bool, true, false, nat_eq, List, [], ◌∷◌, cond, length, refl, sym, subst, eqb-true, arith}
-use Rattle.kc_types.specs.Types.{Nullable, Invariant, Covariant, Contravariant, star_bound}
+use Rattle.std.proofs.Common.{◌≡◌, ℕ, zero, suc, ◌<◌, ◌≤◌, Bool, true, false, nat_eq, List, [], ◌∷◌, cond, refl, sym, subst, eqb-true, arith}
+use Rattle.kc_types.specs.Types.{Nullable, Invariant, Covariant, Contravariant}
 use Rattle.kc_types.specs.Supertypes.{IsIn, here, later, RanksBelow, Acyclic}
 use Rattle.kc_types.specs.Formed.{Different, Formed}
 use Rattle.kc_types.specs.Positions.{Stands, variance_in, Varies}
@@ -9,11 +9,11 @@ use Rattle.kc_types.specs.Examples.{nth, plain, heads_params, heads_supers, head
 use Rattle.kc_types.specs.Laws.{HasValidHeads}
 
 -- what holds of each item of each list, by its number
-abbrev Every : {A : Type 0} → (A → Type 0) → List A → Type 0
+abbrev pub Every : {A : Type 0} → (A → Type 0) → List A → Type 0
 Every P [] = Unit {0}
 Every P (x ∷ xs) = P x × Every P xs
 
-every_in : {A : Type 0} (P : A → Type 0) (xs : List A) (x : A) → Every P xs → IsIn A x xs → P x
+pub every_in : {A : Type 0} (P : A → Type 0) (xs : List A) (x : A) → Every P xs → IsIn A x xs → P x
 every_in P [] x e i = elim i [ ]
 every_in P (y ∷ xs) x e here = e.0
 every_in P (y ∷ xs) x e (later i) = every_in P xs x e.1 i
@@ -25,12 +25,12 @@ Numbered P (xs ∷ xss) = Every (P zero) xs × Numbered (λ k. P (suc k)) xss
 nowhere : {A : Type 0} (P : Type 0) (x : A) → IsIn A x [] → P
 nowhere P x i = elim i [ ]
 
-numbered_in : {A : Type 0} (P : ℕ → A → Type 0) (xss : List (List A)) (c : ℕ) (x : A) → Numbered P xss → IsIn A x (nth [] xss c) → P c x
+pub numbered_in : {A : Type 0} (P : ℕ → A → Type 0) (xss : List (List A)) (c : ℕ) (x : A) → Numbered P xss → IsIn A x (nth [] xss c) → P c x
 numbered_in P [] c x e i = nowhere (P c x) x i
 numbered_in P (xs ∷ xss) zero x e i = every_in (P zero) xs x e.0 i
 numbered_in P (xs ∷ xss) (suc c) x e i = numbered_in (λ k. P (suc k)) xss c x e.1 i
 
-nth_all : {A : Type 0} (P : A → Type 0) (d : A) (xs : List A) → P d → Every P xs → (c : ℕ) → P (nth d xs c)
+pub nth_all : {A : Type 0} (P : A → Type 0) (d : A) (xs : List A) → P d → Every P xs → (c : ℕ) → P (nth d xs c)
 nth_all P d [] p e c = p
 nth_all P d (x ∷ xs) p e zero = e.0
 nth_all P d (x ∷ xs) p e (suc c) = nth_all P d xs p e.1 c
@@ -50,7 +50,7 @@ third = omega arith
 few : (n : ℕ) → n < 10 → n ≤ 10
 few n l = omega (arith, l)
 
-acyclic : Acyclic heads
+pub acyclic : Acyclic heads
 acyclic = record {
   rank = nth 0 ranks;
   within = nth_all (λ r. r ≤ 10) 0 ranks (few 0 (omega arith)) (few 0 (omega arith), (few 1 (omega arith), (few 0 (omega arith), (few 1 (omega arith), (few 0 (omega arith), (few 0 (omega arith), (few 0 (omega arith), (few 1 (omega arith), (few 2 (omega arith), (few 3 (omega arith), tt))))))))));
@@ -79,7 +79,7 @@ is_valid = record {
   types = λ c s i. numbered_in (λ k t. Of_types t) heads_supers c s (tt, ((tt, tt), (tt, ((tt, tt), (tt, (tt, (tt, ((tt, tt), ((tt, tt), ((tt, tt), tt)))))))))) i;
   over = λ c s i. numbered_in (λ k t. Over (nth [] heads_params k) t) heads_supers c s (tt, ((tt, tt), (tt, (((refl, tt), tt), (tt, (tt, (tt, (((refl, tt), tt), (((refl, tt), tt), (((refl, tt), tt), tt)))))))))) i;
   stand = λ c s i. numbered_in (λ k t. Stands heads (variance_in (nth [] heads_params k)) Covariant t) heads_supers c s (tt, ((tt, tt), (tt, (((tt, tt), tt), (tt, (tt, (tt, (((tt, tt), tt), (((tt, tt), tt), (((tt, tt), tt), tt)))))))))) i;
-  tops = λ c p i. numbered_in (λ k q. Formed heads (star_bound (length (nth [] heads_params k)) (nth [] heads_params k) q.bound)) heads_params c p (tt, (tt, (((tt, (λ f. tt, tt)), tt), (((λ f. tt, tt), tt), (((tt, (λ f. tt, tt)), tt), (((tt, (λ f. tt, tt)), ((tt, (λ f. tt, tt)), tt)), (((tt, (λ f. tt, tt)), tt), (((tt, (λ f. tt, tt)), tt), (((tt, (λ f. tt, tt)), tt), (((tt, (λ f. tt, tt)), tt), tt)))))))))) i;
+  class_bounds = λ c p i. numbered_in (λ k q. Formed heads q.bound) heads_params c p (tt, (tt, (((tt, (λ f. tt, tt)), tt), (((λ f. tt, tt), tt), (((tt, (λ f. tt, tt)), tt), (((tt, (λ f. tt, tt)), ((tt, (λ f. tt, tt)), tt)), (((tt, (λ f. tt, tt)), tt), (((tt, (λ f. tt, tt)), tt), (((tt, (λ f. tt, tt)), tt), (((tt, (λ f. tt, tt)), tt), tt)))))))))) i;
   bounds = λ x. bounded (nat_eq x 30);
   plain = refl;
   alone = refl;

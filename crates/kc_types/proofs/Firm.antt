@@ -1,7 +1,7 @@
 -- Lists of arguments contained in others so firmly that every type over them keeps its side: none leans on a bound that its own type
 -- may be beyond.
-use Rattle.std.proofs.Common.{◌≡◌, Bool, true, false, List, [], ◌∷◌, length, refl, sym, subst}
-use Rattle.kc_types.specs.Types.{Ty, Arg, Exact, Out, In, Star, Args, none, more, Variance, Invariant, Covariant, Contravariant, HeadParam, Heads, is_projection, star_bound, reduced}
+use Rattle.std.proofs.Common.{◌≡◌, Bool, true, false, List, [], ◌∷◌, refl, sym, subst}
+use Rattle.kc_types.specs.Types.{Ty, Arg, Exact, Out, In, Star, Args, none, more, Variance, Invariant, Covariant, Contravariant, HeadParam, Heads, is_projection, reduced}
 use Rattle.kc_types.specs.Supertypes.{IsIn, here, later}
 use Rattle.kc_types.specs.Subtype.{read, options, choices, choices_by}
 use Rattle.kc_types.specs.Formed.{Exact_args, Formed, Arg_formed, Args_formed}
@@ -41,9 +41,9 @@ In_by R top Star (Out b) = R top b
 In_by R top Star (In b) = ⊥
 In_by R top Star Star = Unit {0}
 
-abbrev pub All_by : (Ty → Ty → Type 0) → List HeadParam → List HeadParam → Args → Args → Type 0
+abbrev pub All_by : (Ty → Ty → Type 0) → (HeadParam → Ty) → List HeadParam → Args → Args → Type 0
 All_by R all [] none none = Unit {0}
-All_by R all (p ∷ ps) (more a xs) (more b ys) = In_by R (star_bound (length all) all p.bound) (read p.variance a) (read p.variance b) × All_by R all ps xs ys
+All_by R all (p ∷ ps) (more a xs) (more b ys) = In_by R (all p) (read p.variance a) (read p.variance b) × All_by R all ps xs ys
 All_by R all [] none (more b ys) = ⊥
 All_by R all [] (more a xs) ys = ⊥
 All_by R all (p ∷ ps) none ys = ⊥
@@ -88,9 +88,9 @@ Firm R Contravariant top Star (Out b) = ⊥
 Firm R Contravariant top Star (In b) = ⊥
 Firm R Contravariant top Star Star = Unit {0}
 
-abbrev pub Firms : (Ty → Ty → Type 0) → List HeadParam → List HeadParam → Args → Args → Type 0
+abbrev pub Firms : (Ty → Ty → Type 0) → (HeadParam → Ty) → List HeadParam → Args → Args → Type 0
 Firms R all [] none none = Unit {0}
-Firms R all (p ∷ ps) (more a xs) (more b ys) = Firm R p.variance (star_bound (length all) all p.bound) (reduced p.variance a) (reduced p.variance b) × Firms R all ps xs ys
+Firms R all (p ∷ ps) (more a xs) (more b ys) = Firm R p.variance (all p) (reduced p.variance a) (reduced p.variance b) × Firms R all ps xs ys
 Firms R all [] none (more b ys) = ⊥
 Firms R all [] (more a xs) ys = ⊥
 Firms R all (p ∷ ps) none ys = ⊥
@@ -147,9 +147,9 @@ firm_in R Contravariant top Star (Out y) r = tt
 firm_in R Contravariant top Star (In y) r = absurd r
 firm_in R Contravariant top Star Star r = tt
 
-pub firms_in : (R : Ty → Ty → Type 0) (all ps : List HeadParam) (xs ys : Args) → Firms R all ps xs ys → All_by R all ps xs ys
+pub firms_in : (R : Ty → Ty → Type 0) (all : HeadParam → Ty) (ps : List HeadParam) (xs ys : Args) → Firms R all ps xs ys → All_by R all ps xs ys
 firms_in R all [] none none r = tt
-firms_in R all (p ∷ ps) (more a xs) (more b ys) r = (firm_in R p.variance (star_bound (length all) all p.bound) a b r.0, firms_in R all ps xs ys r.1)
+firms_in R all (p ∷ ps) (more a xs) (more b ys) r = (firm_in R p.variance (all p) a b r.0, firms_in R all ps xs ys r.1)
 firms_in R all [] none (more b ys) r = absurd r
 firms_in R all [] (more a xs) ys r = absurd r
 firms_in R all (p ∷ ps) none ys r = absurd r
@@ -239,10 +239,10 @@ firm_through h Contravariant top Star Star (Out z) r q = absurd q
 firm_through h Contravariant top Star Star (In z) r q = absurd q
 firm_through h Contravariant top Star Star Star r q = tt
 
-pub firms_through : (h : Heads) (all ps : List HeadParam) (xs ys zs : Args) → Firms (Rel h) all ps xs ys → Firms (Rel h) all ps ys zs → Firms (Rel h) all ps xs zs
+pub firms_through : (h : Heads) (all : HeadParam → Ty) (ps : List HeadParam) (xs ys zs : Args) → Firms (Rel h) all ps xs ys → Firms (Rel h) all ps ys zs → Firms (Rel h) all ps xs zs
 firms_through h all [] none none none r q = tt
 firms_through h all (p ∷ ps) (more a xs) (more b ys) (more c zs) r q =
-    (firm_through h p.variance (star_bound (length all) all p.bound) (reduced p.variance a) (reduced p.variance b) (reduced p.variance c) r.0 q.0, firms_through h all ps xs ys zs r.1 q.1)
+    (firm_through h p.variance (all p) (reduced p.variance a) (reduced p.variance b) (reduced p.variance c) r.0 q.0, firms_through h all ps xs ys zs r.1 q.1)
 firms_through h all [] none none (more c zs) r q = absurd q
 firms_through h all [] none (more b ys) zs r q = absurd r
 firms_through h all [] (more a xs) ys zs r q = absurd r
@@ -337,36 +337,36 @@ followed h Invariant top a Star c k r (later here) = record { one = Out top; the
 followed h Invariant top a Star c k r (later (later i)) = elim i [ ]
 
 -- the bounds as stars read them are formed
-abbrev pub Tops : Heads → List HeadParam → List HeadParam → Type 0
-Tops h all ps = (p : HeadParam) → IsIn HeadParam p ps → Formed h (star_bound (length all) all p.bound)
+abbrev pub Tops : Heads → (HeadParam → Ty) → List HeadParam → Type 0
+Tops h all ps = (p : HeadParam) → IsIn HeadParam p ps → Formed h (all p)
 
 -- a choice of the first list, firmly contained in the second
-pub record Firmly (h : Heads) (all ps : List HeadParam) (xs ys : Args) : Type 0 where
+pub record Firmly (h : Heads) (all : HeadParam → Ty) (ps : List HeadParam) (xs ys : Args) : Type 0 where
   pub args : Args
   pub there : IsIn Args args (choices all ps xs)
   pub firm : Firms (Rel h) all ps args ys
 
-firmly_more : (h : Heads) (all : List HeadParam) (p : HeadParam) (ps : List HeadParam) (a b : Arg) (xs ys : Args) → Chosen h p.variance (star_bound (length all) all p.bound) a b → Firmly h all ps xs ys → Firmly h all (p ∷ ps) (more a xs) (more b ys)
+firmly_more : (h : Heads) (all : HeadParam → Ty) (p : HeadParam) (ps : List HeadParam) (a b : Arg) (xs ys : Args) → Chosen h p.variance (all p) a b → Firmly h all ps xs ys → Firmly h all (p ∷ ps) (more a xs) (more b ys)
 firmly_more h all p ps a b xs ys c f = record {
   args = more c.one f.args;
-  there = made_in c.one (options p.variance (star_bound (length all) all p.bound) a) f.args (choices all ps xs) c.there f.there;
+  there = made_in c.one (options p.variance (all p) a) f.args (choices all ps xs) c.there f.there;
   firm = (c.firm, f.firm);
 }
 
-pub all_chosen : (h : Heads) (all ps : List HeadParam) (xs ys : Args) → Tops h all ps → All_by (Rel h) all ps xs ys → Firmly h all ps xs ys
+pub all_chosen : (h : Heads) (all : HeadParam → Ty) (ps : List HeadParam) (xs ys : Args) → Tops h all ps → All_by (Rel h) all ps xs ys → Firmly h all ps xs ys
 all_chosen h all [] none none k r = record { args = none; there = here; firm = tt }
 all_chosen h all (p ∷ ps) (more a xs) (more b ys) k r =
-    firmly_more h all p ps a b xs ys (chosen h p.variance (star_bound (length all) all p.bound) a b (k p here) r.0) (all_chosen h all ps xs ys (λ q i. k q (later i)) r.1)
+    firmly_more h all p ps a b xs ys (chosen h p.variance (all p) a b (k p here) r.0) (all_chosen h all ps xs ys (λ q i. k q (later i)) r.1)
 all_chosen h all [] none (more b ys) k r = absurd r
 all_chosen h all [] (more a xs) ys k r = absurd r
 all_chosen h all (p ∷ ps) none ys k r = absurd r
 all_chosen h all (p ∷ ps) (more a xs) none k r = absurd r
 
-pub all_followed : (h : Heads) (all ps : List HeadParam) (xs ys zs : Args) → Tops h all ps → Firms (Rel h) all ps xs ys → IsIn Args zs (choices all ps ys) → Firmly h all ps xs zs
+pub all_followed : (h : Heads) (all : HeadParam → Ty) (ps : List HeadParam) (xs ys zs : Args) → Tops h all ps → Firms (Rel h) all ps xs ys → IsIn Args zs (choices all ps ys) → Firmly h all ps xs zs
 all_followed h all [] none none zs k r here = record { args = none; there = here; firm = tt }
 all_followed h all [] none none zs k r (later i) = elim i [ ]
 all_followed h all (p ∷ ps) (more a xs) (more b ys) zs k r i =
-    let top : Ty = star_bound (length all) all p.bound in
+    let top : Ty = all p in
     let m = made (options p.variance top b) (choices all ps ys) zs i in
     subst (λ us. Firmly h all (p ∷ ps) (more a xs) us) (sym m.is)
     (firmly_more h all p ps a m.a xs m.xs (followed h p.variance top a b m.a (k p here) r.0 m.first_in) (all_followed h all ps xs ys m.xs (λ q j. k q (later j)) r.1 m.rest_in))
@@ -406,7 +406,7 @@ in_by h (in_exact d) t k l = (l, k, d)
 in_by h (in_in d) t k l = (l, k, d)
 in_by h (exact d e) t k l = ((k, l, d), (l, k, e))
 
-pub all_by : (h : Heads) {all ps : List HeadParam} {xs ys : Args} → FormedAll h all ps xs ys → Tops h all ps → Args_formed h ps xs → Args_formed h ps ys → All_by (Rel h) all ps xs ys
+pub all_by : (h : Heads) {all : HeadParam → Ty} {ps : List HeadParam} {xs ys : Args} → FormedAll h all ps xs ys → Tops h all ps → Args_formed h ps xs → Args_formed h ps ys → All_by (Rel h) all ps xs ys
 all_by h end t k l = tt
 all_by h (next {p = p} {a = a} {b = b} d ds) t k l = (in_by h d (t p here) (read_formed h p.variance a k.0) (read_formed h p.variance b l.0), all_by h ds (λ q i. t q (later i)) k.1 l.1)
 
@@ -461,9 +461,9 @@ exact_firm R Invariant top a b r = r
 exact_firm R Covariant top a b r = r
 exact_firm R Contravariant top a b r = r
 
-exact_firms : (R : Ty → Ty → Type 0) (all ps : List HeadParam) (xs ys : Args) → Exact_args xs → Exact_args ys → All_by R all ps xs ys → Firms R all ps xs ys
+exact_firms : (R : Ty → Ty → Type 0) (all : HeadParam → Ty) (ps : List HeadParam) (xs ys : Args) → Exact_args xs → Exact_args ys → All_by R all ps xs ys → Firms R all ps xs ys
 exact_firms R all [] none none e f r = tt
-exact_firms R all (p ∷ ps) (more (Exact a) xs) (more (Exact b) ys) e f r = (exact_firm R p.variance (star_bound (length all) all p.bound) a b r.0, exact_firms R all ps xs ys e f r.1)
+exact_firms R all (p ∷ ps) (more (Exact a) xs) (more (Exact b) ys) e f r = (exact_firm R p.variance (all p) a b r.0, exact_firms R all ps xs ys e f r.1)
 exact_firms R all (p ∷ ps) (more (Exact a) xs) (more (Out b) ys) e f r = absurd f
 exact_firms R all (p ∷ ps) (more (Exact a) xs) (more (In b) ys) e f r = absurd f
 exact_firms R all (p ∷ ps) (more (Exact a) xs) (more Star ys) e f r = absurd f
@@ -475,16 +475,16 @@ exact_firms R all [] (more a xs) ys e f r = absurd r
 exact_firms R all (p ∷ ps) none ys e f r = absurd r
 exact_firms R all (p ∷ ps) (more a xs) none e f r = absurd r
 
-pub record Firmly_chosen (h : Heads) (v : Bool) (ps : List HeadParam) (xs ys : Args) : Type 0 where
+pub record Firmly_chosen (h : Heads) (v : Bool) (all : HeadParam → Ty) (ps : List HeadParam) (xs ys : Args) : Type 0 where
   pub args : Args
-  pub there : IsIn Args args (choices_by v ps xs)
-  pub firm : Firms (Rel h) ps ps args ys
+  pub there : IsIn Args args (choices_by v all ps xs)
+  pub firm : Firms (Rel h) all ps args ys
 
-pub class_chosen : (h : Heads) (v : Bool) (ps : List HeadParam) (xs ys : Args) → Tops h ps ps → (v ≡ true → Exact_args xs) → (v ≡ true → Exact_args ys) → All_by (Rel h) ps ps xs ys → Firmly_chosen h v ps xs ys
-class_chosen h true ps xs ys k e f r = record { args = xs; there = here; firm = exact_firms (Rel h) ps ps xs ys (e refl) (f refl) r }
-class_chosen h false ps xs ys k e f r = let c = all_chosen h ps ps xs ys k r in record { args = c.args; there = c.there; firm = c.firm }
+pub class_chosen : (h : Heads) (v : Bool) (all : HeadParam → Ty) (ps : List HeadParam) (xs ys : Args) → Tops h all ps → (v ≡ true → Exact_args xs) → (v ≡ true → Exact_args ys) → All_by (Rel h) all ps xs ys → Firmly_chosen h v all ps xs ys
+class_chosen h true all ps xs ys k e f r = record { args = xs; there = here; firm = exact_firms (Rel h) all ps xs ys (e refl) (f refl) r }
+class_chosen h false all ps xs ys k e f r = let c = all_chosen h all ps xs ys k r in record { args = c.args; there = c.there; firm = c.firm }
 
-pub class_followed : (h : Heads) (v : Bool) (ps : List HeadParam) (xs ys zs : Args) → Tops h ps ps → Firms (Rel h) ps ps xs ys → IsIn Args zs (choices_by v ps ys) → Firmly_chosen h v ps xs zs
-class_followed h true ps xs ys zs k r here = record { args = xs; there = here; firm = r }
-class_followed h true ps xs ys zs k r (later i) = elim i [ ]
-class_followed h false ps xs ys zs k r i = let c = all_followed h ps ps xs ys zs k r i in record { args = c.args; there = c.there; firm = c.firm }
+pub class_followed : (h : Heads) (v : Bool) (all : HeadParam → Ty) (ps : List HeadParam) (xs ys zs : Args) → Tops h all ps → Firms (Rel h) all ps xs ys → IsIn Args zs (choices_by v all ps ys) → Firmly_chosen h v all ps xs zs
+class_followed h true all ps xs ys zs k r here = record { args = xs; there = here; firm = r }
+class_followed h true all ps xs ys zs k r (later i) = elim i [ ]
+class_followed h false all ps xs ys zs k r i = let c = all_followed h all ps xs ys zs k r i in record { args = c.args; there = c.there; firm = c.firm }

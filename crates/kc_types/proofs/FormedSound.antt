@@ -1,5 +1,5 @@
 -- What the recursion accepts of formed types is below by way of formed types.
-use Rattle.std.proofs.Common.{◌≡◌, ℕ, zero, suc, Bool, true, false, nat_eq, List, [], ◌∷◌, ◌&&◌, length, refl, sym, subst, ◌∙◌, ⊎_elim, eqb-true}
+use Rattle.std.proofs.Common.{◌≡◌, ℕ, zero, suc, Bool, true, false, nat_eq, List, [], ◌∷◌, ◌&&◌, refl, sym, subst, ◌∙◌, ⊎_elim, eqb-true}
 use Rattle.std.proofs.lemmas.Bool.{and_parts, or_cases}
 use Rattle.kc_types.specs.Types.{Ty, Class, Param, Nothing, Nullable, Arg, Exact, Out, In, Star, Args, none, more, Variance, Invariant, Covariant, Contravariant, HeadParam, Heads, star_bound, up, class_given}
 use Rattle.kc_types.specs.Supertypes.{IsIn, here, later, Supertype, above, is_class}
@@ -60,28 +60,28 @@ by_star h Invariant top Star b k here = itself h Invariant top Star k
 by_star h Invariant top Star b k (later here) = record { mid = Star; formed = tt; to_mid = star; from_mid = out_star same }
 by_star h Invariant top Star b k (later (later i)) = elim i [ ]
 
-record By_stars (h : Heads) (all ps : List HeadParam) (xs ys : Args) : Type 0 where
+record By_stars (h : Heads) (all : HeadParam → Ty) (ps : List HeadParam) (xs ys : Args) : Type 0 where
   mid : Args
   formed : Args_formed h ps mid
   to_mid : FormedAll h all ps xs mid
   from_mid : FormedAll h all ps mid ys
 
-stars_between : (h : Heads) (all ps : List HeadParam) (xs ys : Args) → Args_formed h ps xs → IsIn Args ys (choices all ps xs) → By_stars h all ps xs ys
+stars_between : (h : Heads) (all : HeadParam → Ty) (ps : List HeadParam) (xs ys : Args) → Args_formed h ps xs → IsIn Args ys (choices all ps xs) → By_stars h all ps xs ys
 stars_between h all [] none ys k here = record { mid = none; formed = tt; to_mid = end; from_mid = end }
 stars_between h all [] none ys k (later i) = elim i [ ]
 stars_between h all [] (more a xs) ys k i = absurd k
 stars_between h all (p ∷ ps) none ys k i = absurd k
 stars_between h all (p ∷ ps) (more a xs) ys k i =
-    let m = made (options p.variance (star_bound (length all) all p.bound) a) (choices all ps xs) ys i in
+    let m = made (options p.variance (all p) a) (choices all ps xs) ys i in
     let b = stars_between h all ps xs m.xs k.1 m.rest_in in
-    let o = by_star h p.variance (star_bound (length all) all p.bound) a m.a k.0 m.first_in in
+    let o = by_star h p.variance (all p) a m.a k.0 m.first_in in
     record { mid = more o.mid b.mid; formed = (o.formed, b.formed); to_mid = next o.to_mid b.to_mid; from_mid = subst (λ zs. FormedAll h all (p ∷ ps) (more o.mid b.mid) zs) (sym m.is) (next o.from_mid b.from_mid) }
 
-choice_formed : (h : Heads) (c : ℕ) (v : Bool) (xs ys : Args) → h.is_function c ≡ v → Args_formed h (h.params c) xs → IsIn Args ys (choices_by v (h.params c) xs) → FormedSub h (Class c xs) (Class c ys)
+choice_formed : (h : Heads) (c : ℕ) (v : Bool) (xs ys : Args) → h.is_function c ≡ v → Args_formed h (h.params c) xs → IsIn Args ys (choices_by v (star_bound h c) (h.params c) xs) → FormedSub h (Class c xs) (Class c ys)
 choice_formed h c true xs ys e k here = same
 choice_formed h c true xs ys e k (later i) = elim i [ ]
 choice_formed h c false xs ys e k i =
-    let b = stars_between h (h.params c) (h.params c) xs ys k i in
+    let b = stars_between h (star_bound h c) (h.params c) xs ys k i in
     through (λ f. no (sym e ∙ f), b.formed) (arguments b.to_mid) (arguments b.from_mid)
 
 module _ (h : Heads) (valid : ValidHeads h) (go : Ty → Ty → Bool) (is : (a b : Ty) → Formed h a → Formed h b → go a b ≡ true → FormedSub h a b) where
@@ -100,11 +100,11 @@ module _ (h : Heads) (valid : ValidHeads h) (go : Ty → Ty → Bool) (is : (a b
   contained top (In a) (Exact b) t k l e = no e
   contained top Star (Exact b) t k l e = no e
 
-  all_contained : (all ps : List HeadParam) (xs ys : Args) → Tops h all ps → Args_formed h ps xs → Args_formed h ps ys → all_with go all ps xs ys ≡ true → FormedAll h all ps xs ys
+  all_contained : (all : HeadParam → Ty) (ps : List HeadParam) (xs ys : Args) → Tops h all ps → Args_formed h ps xs → Args_formed h ps ys → all_with go all ps xs ys ≡ true → FormedAll h all ps xs ys
   all_contained all [] none none t k l e = end
   all_contained all (p ∷ ps) (more a xs) (more b ys) t k l e =
-      let q = and_parts (contains_with go (star_bound (length all) all p.bound) (read p.variance a) (read p.variance b)) (all_with go all ps xs ys) e in
-      next (contained (star_bound (length all) all p.bound) (read p.variance a) (read p.variance b) (t p here) (read_formed h p.variance a k.0) (read_formed h p.variance b l.0) q.0) (all_contained all ps xs ys (λ r i. t r (later i)) k.1 l.1 q.1)
+      let q = and_parts (contains_with go (all p) (read p.variance a) (read p.variance b)) (all_with go all ps xs ys) e in
+      next (contained (all p) (read p.variance a) (read p.variance b) (t p here) (read_formed h p.variance a k.0) (read_formed h p.variance b l.0) q.0) (all_contained all ps xs ys (λ r i. t r (later i)) k.1 l.1 q.1)
   all_contained all [] (more a xs) ys t k l e = no e
   all_contained all [] none (more b ys) t k l e = no e
   all_contained all (p ∷ ps) none ys t k l e = no e
@@ -119,16 +119,16 @@ module _ (h : Heads) (valid : ValidHeads h) (go : Ty → Ty → Bool) (is : (a b
       (λ q. above_formed c xs b ts k l (λ s i. f s (later i)) q)
       (or_cases (elim (is_class c t) [ true ↦ false | false ↦ go (up h (class_given h c xs) t) b ]) (above_with go h (class_given h c xs) c b ts) e)
 
-  same_formed : (c : ℕ) (xs : Args) (d : ℕ) (ys : Args) → Formed h (Class c xs) → Formed h (Class d ys) → elim (nat_eq c d) [ true ↦ all_with go (h.params c) (h.params c) xs ys | false ↦ false ] ≡ true → FormedSub h (Class c xs) (Class d ys)
+  same_formed : (c : ℕ) (xs : Args) (d : ℕ) (ys : Args) → Formed h (Class c xs) → Formed h (Class d ys) → elim (nat_eq c d) [ true ↦ all_with go (star_bound h c) (h.params c) xs ys | false ↦ false ] ≡ true → FormedSub h (Class c xs) (Class d ys)
   same_formed c xs d ys k l e =
-      let q = one_class (nat_eq c d) (all_with go (h.params c) (h.params c) xs ys) e in
+      let q = one_class (nat_eq c d) (all_with go (star_bound h c) (h.params c) xs ys) e in
       let s : c ≡ d = eqb-true c d q.0 in
       let m : Formed h (Class c ys) = subst (λ x. Formed h (Class x ys)) (sym s) l in
-      subst (λ x. FormedSub h (Class c xs) (Class x ys)) s (arguments (all_contained (h.params c) (h.params c) xs ys (tops h valid c) k.1 m.1 q.1))
+      subst (λ x. FormedSub h (Class c xs) (Class x ys)) s (arguments (all_contained (star_bound h c) (h.params c) xs ys (tops h valid c) k.1 m.1 q.1))
 
   fits_formed : (c : ℕ) (xs : Args) (d : ℕ) (ys : Args) → Formed h (Class c xs) → Formed h (Class d ys) → fits_with go h c xs d ys ≡ true → FormedSub h (Class c xs) (Class d ys)
   fits_formed c xs d ys k l e = ⊎_elim (same_formed c xs d ys k l) (above_formed c xs (Class d ys) (above h c) k l (above_only h c))
-      (or_cases (elim (nat_eq c d) [ true ↦ all_with go (h.params c) (h.params c) xs ys | false ↦ false ]) (above_with go h (class_given h c xs) c (Class d ys) (above h c)) e)
+      (or_cases (elim (nat_eq c d) [ true ↦ all_with go (star_bound h c) (h.params c) xs ys | false ↦ false ]) (above_with go h (class_given h c xs) c (Class d ys) (above h c)) e)
 
   any_formed : (c : ℕ) (xs : Args) (xss : List Args) (d : ℕ) (ys : Args) → Formed h (Class d ys) → ((zs : Args) → IsIn Args zs xss → Formed h (Class c zs) × FormedSub h (Class c xs) (Class c zs)) → any_fits go h c xss d ys ≡ true → FormedSub h (Class c xs) (Class d ys)
   any_formed c xs [] d ys l w e = no e
@@ -205,7 +205,7 @@ mutual
   forget h (arguments ds) = sub_arguments (forget_all h ds)
   forget h bound = sub_bound
 
-  forget_all : (h : Heads) {all ps : List HeadParam} {xs ys : Args} → FormedAll h all ps xs ys → All h all ps xs ys
+  forget_all : (h : Heads) {all : HeadParam → Ty} {ps : List HeadParam} {xs ys : Args} → FormedAll h all ps xs ys → All h all ps xs ys
   forget_all h end = all_end
   forget_all h (next d ds) = all_next (forget_in h d) (forget_all h ds)
 

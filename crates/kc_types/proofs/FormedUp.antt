@@ -13,6 +13,10 @@ abbrev pub Given_formed : Heads → Option Given → Type 0
 Given_formed h None = Unit {0}
 Given_formed h (Some g) = Arg_formed h g.arg × Formed h g.top
 
+pub given_picked : (h : Heads) (b : Bool) (g : Given) (o : Option Given) → Given_formed h (Some g) → Given_formed h o → Given_formed h (cond b (Some g) o)
+given_picked h true g o k l = k
+given_picked h false g o k l = l
+
 value_up_arg : (h : Heads) (a : Arg) (top : Ty) → Arg_formed h a → Formed h top → Formed h (elim a [ Exact t ↦ t | Out t ↦ t | In t ↦ top | Star ↦ top ])
 value_up_arg h (Exact t) top k l = k
 value_up_arg h (Out t) top k l = k

@@ -1,5 +1,5 @@
 -- What the recursion accepts at one height it accepts at each greater one.
-use Rattle.std.proofs.Common.{◌≡◌, ℕ, zero, suc, ◌≤◌, Bool, true, false, nat_eq, List, [], ◌∷◌, ◌&&◌, ◌||◌, length, refl, ⊎_elim, arith}
+use Rattle.std.proofs.Common.{◌≡◌, ℕ, zero, suc, ◌≤◌, Bool, true, false, nat_eq, List, [], ◌∷◌, ◌&&◌, ◌||◌, refl, ⊎_elim, arith}
 use Rattle.std.proofs.lemmas.Bool.{and_parts, or_cases}
 use Rattle.kc_types.specs.Types.{Ty, Class, Param, Nothing, Nullable, Arg, Exact, Out, In, Star, Args, none, more, HeadParam, Heads, Given, up, star_bound, class_given}
 use Rattle.kc_types.specs.Supertypes.{above, is_class}
@@ -39,12 +39,12 @@ module _ (h : Heads) (go more_of : Ty → Ty → Bool) (f : (a b : Ty) → go a 
   contains_grows top (In a) (Exact b) e = no e
   contains_grows top Star (Exact b) e = no e
 
-  pub all_grow : (all ps : List HeadParam) (xs ys : Args) → all_with go all ps xs ys ≡ true → all_with more_of all ps xs ys ≡ true
+  pub all_grow : (all : HeadParam → Ty) (ps : List HeadParam) (xs ys : Args) → all_with go all ps xs ys ≡ true → all_with more_of all ps xs ys ≡ true
   all_grow all [] none none e = refl
   all_grow all (p ∷ ps) (more a xs) (more b ys) e =
-      let q = and_parts (contains_with go (star_bound (length all) all p.bound) (read p.variance a) (read p.variance b)) (all_with go all ps xs ys) e in
-      and_true (contains_with more_of (star_bound (length all) all p.bound) (read p.variance a) (read p.variance b)) (all_with more_of all ps xs ys)
-      (contains_grows (star_bound (length all) all p.bound) (read p.variance a) (read p.variance b) q.0) (all_grow all ps xs ys q.1)
+      let q = and_parts (contains_with go (all p) (read p.variance a) (read p.variance b)) (all_with go all ps xs ys) e in
+      and_true (contains_with more_of (all p) (read p.variance a) (read p.variance b)) (all_with more_of all ps xs ys)
+      (contains_grows (all p) (read p.variance a) (read p.variance b) q.0) (all_grow all ps xs ys q.1)
   all_grow all [] (more a xs) ys e = no e
   all_grow all [] none (more b ys) e = no e
   all_grow all (p ∷ ps) none ys e = no e
@@ -54,11 +54,11 @@ module _ (h : Heads) (go more_of : Ty → Ty → Bool) (f : (a b : Ty) → go a 
   step_grows true a b e = e
   step_grows false a b e = f a b e
 
-  same_grows : (v : Bool) (ps : List HeadParam) (xs ys : Args) → elim v [ true ↦ all_with go ps ps xs ys | false ↦ false ] ≡ true → elim v [ true ↦ all_with more_of ps ps xs ys | false ↦ false ] ≡ true
-  same_grows true ps xs ys e = all_grow ps ps xs ys e
-  same_grows false ps xs ys e = e
+  same_grows : (v : Bool) (all : HeadParam → Ty) (ps : List HeadParam) (xs ys : Args) → elim v [ true ↦ all_with go all ps xs ys | false ↦ false ] ≡ true → elim v [ true ↦ all_with more_of all ps xs ys | false ↦ false ] ≡ true
+  same_grows true all ps xs ys e = all_grow all ps xs ys e
+  same_grows false all ps xs ys e = e
 
-  above_grow : (gs : List Given) (c : ℕ) (b : Ty) (ts : List Ty) → above_with go h gs c b ts ≡ true → above_with more_of h gs c b ts ≡ true
+  pub above_grow : (gs : List Given) (c : ℕ) (b : Ty) (ts : List Ty) → above_with go h gs c b ts ≡ true → above_with more_of h gs c b ts ≡ true
   above_grow gs c b [] e = no e
   above_grow gs c b (t ∷ ts) e =
       let here : Bool = elim (is_class c t) [ true ↦ false | false ↦ more_of (up h gs t) b ] in
@@ -67,15 +67,15 @@ module _ (h : Heads) (go more_of : Ty → Ty → Bool) (f : (a b : Ty) → go a 
       (λ q. or_right here (above_with more_of h gs c b ts) (above_grow gs c b ts q))
       (or_cases (elim (is_class c t) [ true ↦ false | false ↦ go (up h gs t) b ]) (above_with go h gs c b ts) e)
 
-  fits_grow : (c : ℕ) (xs : Args) (d : ℕ) (ys : Args) → fits_with go h c xs d ys ≡ true → fits_with more_of h c xs d ys ≡ true
+  pub fits_grow : (c : ℕ) (xs : Args) (d : ℕ) (ys : Args) → fits_with go h c xs d ys ≡ true → fits_with more_of h c xs d ys ≡ true
   fits_grow c xs d ys e =
-      let here : Bool = elim (nat_eq c d) [ true ↦ all_with more_of (h.params c) (h.params c) xs ys | false ↦ false ] in
+      let here : Bool = elim (nat_eq c d) [ true ↦ all_with more_of (star_bound h c) (h.params c) xs ys | false ↦ false ] in
       ⊎_elim
-      (λ q. or_left here (above_with more_of h (class_given h c xs) c (Class d ys) (above h c)) (same_grows (nat_eq c d) (h.params c) xs ys q))
+      (λ q. or_left here (above_with more_of h (class_given h c xs) c (Class d ys) (above h c)) (same_grows (nat_eq c d) (star_bound h c) (h.params c) xs ys q))
       (λ q. or_right here (above_with more_of h (class_given h c xs) c (Class d ys) (above h c)) (above_grow (class_given h c xs) c (Class d ys) (above h c) q))
-      (or_cases (elim (nat_eq c d) [ true ↦ all_with go (h.params c) (h.params c) xs ys | false ↦ false ]) (above_with go h (class_given h c xs) c (Class d ys) (above h c)) e)
+      (or_cases (elim (nat_eq c d) [ true ↦ all_with go (star_bound h c) (h.params c) xs ys | false ↦ false ]) (above_with go h (class_given h c xs) c (Class d ys) (above h c)) e)
 
-  any_grow : (c : ℕ) (xss : List Args) (d : ℕ) (ys : Args) → any_fits go h c xss d ys ≡ true → any_fits more_of h c xss d ys ≡ true
+  pub any_grow : (c : ℕ) (xss : List Args) (d : ℕ) (ys : Args) → any_fits go h c xss d ys ≡ true → any_fits more_of h c xss d ys ≡ true
   any_grow c [] d ys e = no e
   any_grow c (xs ∷ xss) d ys e = ⊎_elim
       (λ q. or_left (fits_with more_of h c xs d ys) (any_fits more_of h c xss d ys) (fits_grow c xs d ys q))
@@ -97,7 +97,7 @@ module _ (h : Heads) (go more_of : Ty → Ty → Bool) (f : (a b : Ty) → go a 
   null_grows a (Param x) e = no e
   null_grows a Nothing e = no e
 
-  layer_grows : (a b : Ty) → layer go h a b ≡ true → layer more_of h a b ≡ true
+  pub layer_grows : (a b : Ty) → layer go h a b ≡ true → layer more_of h a b ≡ true
   layer_grows Nothing b e = refl
   layer_grows (Nullable a) b e = null_grows a b e
   layer_grows (Param x) b e = ⊎_elim

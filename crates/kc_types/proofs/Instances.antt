@@ -1,6 +1,6 @@
 -- A class type whose arguments are types that keep their bounds, at each of its superclasses, has an instance there that is contained
 -- in whatever it is below of that class.
-use Rattle.std.proofs.Common.{◌≡◌, ℕ, zero, suc, ◌<◌, Bool, true, false, nat_eq, List, [], ◌∷◌, Option, Some, cond, ◌||◌, length, refl, sym, ap, subst, ◌∙◌, ◌⊎◌, inl, inr, eq-eqb, arith}
+use Rattle.std.proofs.Common.{◌≡◌, ℕ, zero, suc, ◌<◌, Bool, true, false, nat_eq, List, [], ◌∷◌, Option, Some, cond, ◌||◌, refl, sym, ap, subst, ◌∙◌, ◌⊎◌, inl, inr, eq-eqb, arith}
 use Rattle.kc_types.specs.Types.{Ty, Class, Param, Nothing, Nullable, Arg, Exact, Out, In, Star, Args, none, more, Variance, Invariant, Covariant, Contravariant, HeadParam, Heads, Given, nullable, given, is_given_projection, names, names_arg, names_args, value_up, variance_at, rest_of, unless_against, up, down, up_arg, up_args, is_own, star_bound, given_all, class_given, reduced, reduced_args}
 use Rattle.kc_types.specs.Supertypes.{IsIn, here, later, Supertype, put, put_arg, put_args, put_in, is_class, own_args, own_type, RanksBelow}
 use Rattle.kc_types.specs.Supertypes.Supertype.{own, next}
@@ -66,10 +66,10 @@ module _ (h : Heads) (gs : List Given) (typed : (x : ℕ) → is_given_projectio
   place true c x y t w top a o e f q = subst (λ r. up h gs t ≡ value_up x (Some (record { var = y; arg = r; top = top }))) (sym e) refl
   place false c x y t w top a o e f q = f q
 
-  places : (f : Bool) (all ps : List HeadParam) (zs : Args) → Exact_args zs → Args_formed h ps zs → (x : ℕ) → is_own ps x ≡ true → up h gs (put_in ps zs x) ≡ value_up x (given (given_all all ps (reduced_args ps (up_args h gs f ps zs))) x)
+  places : (f : Bool) (all : HeadParam → Ty) (ps : List HeadParam) (zs : Args) → Exact_args zs → Args_formed h ps zs → (x : ℕ) → is_own ps x ≡ true → up h gs (put_in ps zs x) ≡ value_up x (given (given_all all ps (reduced_args ps (up_args h gs f ps zs))) x)
   places f all [] none e k x q = no (sym q)
   places f all (p ∷ ps) (more (Exact t) zs) e k x q =
-      place (nat_eq p.var x) (is_own ps x) x p.var t (put_in ps zs x) (star_bound (length all) all p.bound) (reduced p.variance (unless_against p.variance (Exact t) (up_arg h gs f (Exact t) p.variance)))
+      place (nat_eq p.var x) (is_own ps x) x p.var t (put_in ps zs x) (all p) (reduced p.variance (unless_against p.variance (Exact t) (up_arg h gs f (Exact t) p.variance)))
       (given (given_all all ps (reduced_args ps (up_args h gs f ps zs))) x) (ap (reduced p.variance) (exact_is f p.variance t) ∙ reduced_type p.variance (up h gs t)) (places f all ps zs e k.1 x) q
   places f all (p ∷ ps) (more (Out t) zs) e k x q = absurd e
   places f all (p ∷ ps) (more (In t) zs) e k x q = absurd e
@@ -172,13 +172,13 @@ module _ (h : Heads) where
   option_firm Invariant top x a r (later (later here)) = r
   option_firm Invariant top x a r (later (later (later i))) = elim i [ ]
 
-  choice_firm : (all ps : List HeadParam) (xs ys : Args) → Exact_args xs → Kept h all ps xs → IsIn Args ys (choices all ps xs) → Firms (Rel h) all ps xs ys
+  choice_firm : (all : HeadParam → Ty) (ps : List HeadParam) (xs ys : Args) → Exact_args xs → Kept h all ps xs → IsIn Args ys (choices all ps xs) → Firms (Rel h) all ps xs ys
   choice_firm all [] none ys e k i = subst (λ us. Firms (Rel h) all [] none us) (sym (only_none ys i)) tt
   choice_firm all [] (more a xs) ys e k i = elim i [ ]
   choice_firm all (p ∷ ps) none ys e k i = elim i [ ]
   choice_firm all (p ∷ ps) (more (Exact t) xs) ys e k i =
-      let m = made (options p.variance (star_bound (length all) all p.bound) (Exact t)) (choices all ps xs) ys i in
-      subst (λ us. Firms (Rel h) all (p ∷ ps) (more (Exact t) xs) us) (sym m.is) (option_firm p.variance (star_bound (length all) all p.bound) t m.a k.0 m.first_in, choice_firm all ps xs m.xs e k.1 m.rest_in)
+      let m = made (options p.variance (all p) (Exact t)) (choices all ps xs) ys i in
+      subst (λ us. Firms (Rel h) all (p ∷ ps) (more (Exact t) xs) us) (sym m.is) (option_firm p.variance (all p) t m.a k.0 m.first_in, choice_firm all ps xs m.xs e k.1 m.rest_in)
   choice_firm all (p ∷ ps) (more (Out t) xs) ys e k i = absurd e
   choice_firm all (p ∷ ps) (more (In t) xs) ys e k i = absurd e
   choice_firm all (p ∷ ps) (more Star xs) ys e k i = absurd e
@@ -188,19 +188,19 @@ module _ (h : Heads) where
   exact_firm_same Covariant top x k = rel_same h x k
   exact_firm_same Contravariant top x k = rel_same h x k
 
-  same_firm : (all ps : List HeadParam) (xs : Args) → Exact_args xs → Args_formed h ps xs → Firms (Rel h) all ps xs xs
+  same_firm : (all : HeadParam → Ty) (ps : List HeadParam) (xs : Args) → Exact_args xs → Args_formed h ps xs → Firms (Rel h) all ps xs xs
   same_firm all [] none e k = tt
-  same_firm all (p ∷ ps) (more (Exact t) xs) e k = (exact_firm_same p.variance (star_bound (length all) all p.bound) t k.0, same_firm all ps xs e k.1)
+  same_firm all (p ∷ ps) (more (Exact t) xs) e k = (exact_firm_same p.variance (all p) t k.0, same_firm all ps xs e k.1)
   same_firm all (p ∷ ps) (more (Out t) xs) e k = absurd e
   same_firm all (p ∷ ps) (more (In t) xs) e k = absurd e
   same_firm all (p ∷ ps) (more Star xs) e k = absurd e
   same_firm all [] (more a xs) e k = absurd k
   same_firm all (p ∷ ps) none e k = absurd k
 
-  choice_by_firm : (v : Bool) (ps : List HeadParam) (xs ys : Args) → Exact_args xs → Args_formed h ps xs → Kept h ps ps xs → IsIn Args ys (choices_by v ps xs) → Firms (Rel h) ps ps xs ys
-  choice_by_firm true ps xs ys e k q here = same_firm ps ps xs e k
-  choice_by_firm true ps xs ys e k q (later i) = elim i [ ]
-  choice_by_firm false ps xs ys e k q i = choice_firm ps ps xs ys e q i
+  choice_by_firm : (v : Bool) (all : HeadParam → Ty) (ps : List HeadParam) (xs ys : Args) → Exact_args xs → Args_formed h ps xs → Kept h all ps xs → IsIn Args ys (choices_by v all ps xs) → Firms (Rel h) all ps xs ys
+  choice_by_firm true all ps xs ys e k q here = same_firm all ps xs e k
+  choice_by_firm true all ps xs ys e k q (later i) = elim i [ ]
+  choice_by_firm false all ps xs ys e k q i = choice_firm all ps xs ys e q i
 
   -- what contains a choice contains the arguments
   contains_first : (v : Variance) (top x : Ty) (a b : Arg) → Firm (Rel h) v top (reduced v (Exact x)) (reduced v a) → In_by (Rel h) top (read v a) (read v b) → In_by (Rel h) top (read v (Exact x)) (read v b)
@@ -253,10 +253,10 @@ module _ (h : Heads) where
   contains_first Contravariant top x Star (In z) f r = absurd r
   contains_first Contravariant top x Star Star f r = tt
 
-  all_first : (all ps : List HeadParam) (xs us ys : Args) → Exact_args xs → Firms (Rel h) all ps xs us → All_by (Rel h) all ps us ys → All_by (Rel h) all ps xs ys
+  all_first : (all : HeadParam → Ty) (ps : List HeadParam) (xs us ys : Args) → Exact_args xs → Firms (Rel h) all ps xs us → All_by (Rel h) all ps us ys → All_by (Rel h) all ps xs ys
   all_first all [] none none none e f r = tt
   all_first all (p ∷ ps) (more (Exact t) xs) (more a us) (more b ys) e f r =
-      (contains_first p.variance (star_bound (length all) all p.bound) t a b f.0 r.0, all_first all ps xs us ys e f.1 r.1)
+      (contains_first p.variance (all p) t a b f.0 r.0, all_first all ps xs us ys e f.1 r.1)
   all_first all (p ∷ ps) (more (Out t) xs) us ys e f r = absurd e
   all_first all (p ∷ ps) (more (In t) xs) us ys e f r = absurd e
   all_first all (p ∷ ps) (more Star xs) us ys e f r = absurd e
@@ -269,7 +269,7 @@ module _ (h : Heads) where
 
 -- ---- the instance
 pub typed_given : (h : Heads) (c : ℕ) (xs : Args) → Exact_args xs → (x : ℕ) → is_given_projection (given (class_given h c xs) x) ≡ false
-typed_given h c xs e = subst (λ ys. (x : ℕ) → is_given_projection (given (given_all (h.params c) (h.params c) ys) x) ≡ false) (sym (reduced_exact (h.params c) xs e)) (given_exact (h.params c) (h.params c) xs e)
+typed_given h c xs e = subst (λ ys. (x : ℕ) → is_given_projection (given (given_all (star_bound h c) (h.params c) ys) x) ≡ false) (sym (reduced_exact (h.params c) xs e)) (given_exact (star_bound h c) (h.params c) xs e)
 
 -- a class's arguments at a superclass
 abbrev pub args_at : Heads → ℕ → Args → ℕ → Args → Args
@@ -278,7 +278,7 @@ args_at h e xs d zs = up_args h (class_given h e xs) (h.is_function d) (h.params
 pub record Contained (h : Heads) (e : ℕ) (xs : Args) (d : ℕ) (ys : Args) : Type 0 where
   pub args : Args
   pub there : Supertype h e (Class d args)
-  pub all : All_by (Rel h) (h.params d) (h.params d) (args_at h e xs d args) ys
+  pub all : All_by (Rel h) (star_bound h d) (h.params d) (args_at h e xs d args) ys
 
 module _ (h : Heads) (valid : ValidHeads h) where
   pub exact_at : (e : ℕ) (xs : Args) (d : ℕ) (zs : Args) → Exact_args xs → Supertype h e (Class d zs) → Exact_args (args_at h e xs d zs)
@@ -291,7 +291,7 @@ module _ (h : Heads) (valid : ValidHeads h) where
       let gs : List Given = class_given h e xs in
       let p = placed h valid st in
       joined h gs (class_given h b (args_at h e xs b zs)) (typed_given h e xs k) (typed_given h b (args_at h e xs b zs) (exact_at e xs b zs k st)) (h.params b) (put_in (h.params b) zs)
-      (places h gs (typed_given h e xs k) (h.is_function b) (h.params b) (h.params b) zs p.types p.formed.1) t o
+      (places h gs (typed_given h e xs k) (h.is_function b) (star_bound h b) (h.params b) zs p.types p.formed.1) t o
 
   pub super_joins : {e b : ℕ} {zs : Args} {t : Ty} → Supertype h e (Class b zs) → Supertype h b t → Supertype h e (put (put_in (h.params b) zs) t)
   super_joins {e = e} {b = b} {zs = zs} st own =
@@ -307,7 +307,7 @@ module _ (h : Heads) (valid : ValidHeads h) where
   keeps_on e xs b zs k st q d ws sd =
       let is : Class d (args_at h e xs d (put_args (put_in (h.params b) zs) ws)) ≡ Class d (args_at h b (args_at h e xs b zs) d ws) = at_twice e xs b zs (Class d ws) k st (placed h valid sd).over in
       let args : args_at h e xs d (put_args (put_in (h.params b) zs) ws) ≡ args_at h b (args_at h e xs b zs) d ws = cc in
-      subst (λ us. Kept h (h.params d) (h.params d) us) args (q d (put_args (put_in (h.params b) zs) ws) (super_joins st sd))
+      subst (λ us. Kept h (star_bound h d) (h.params d) us) args (q d (put_args (put_in (h.params b) zs) ws) (super_joins st sd))
 
   pub own_at : (e : ℕ) (xs : Args) → Exact_args xs → Formed h (Class e xs) → args_at h e xs e (own_args (h.params e)) ≡ xs
   own_at e xs k f =
@@ -315,9 +315,9 @@ module _ (h : Heads) (valid : ValidHeads h) where
       let args : args_at h e xs e (own_args (h.params e)) ≡ reduced_args (h.params e) xs = cc in
       args ∙ reduced_exact (h.params e) xs k
 
-  firm_choice : (e : ℕ) (xs ys : Args) → Exact_args xs → Formed h (Class e xs) → Keeps h e xs → IsIn Args ys (class_choices h e xs) → Firms (Rel h) (h.params e) (h.params e) xs ys
+  firm_choice : (e : ℕ) (xs ys : Args) → Exact_args xs → Formed h (Class e xs) → Keeps h e xs → IsIn Args ys (class_choices h e xs) → Firms (Rel h) (star_bound h e) (h.params e) xs ys
   firm_choice e xs ys k f q i =
-      choice_by_firm h (h.is_function e) (h.params e) xs ys k f.1 (subst (λ us. Kept h (h.params e) (h.params e) us) (own_at e xs k f) (q e (own_args (h.params e)) own)) i
+      choice_by_firm h (h.is_function e) (star_bound h e) (h.params e) xs ys k f.1 (subst (λ us. Kept h (star_bound h e) (h.params e) us) (own_at e xs k f) (q e (own_args (h.params e)) own)) i
 
   abbrev pub Found : ℕ → Args → ℕ → Args → Type 0
   Found e xs d ys = ((d ≡ h.any) × (ys ≡ none)) ⊎ Contained h e xs d ys
@@ -330,7 +330,7 @@ module _ (h : Heads) (valid : ValidHeads h) where
   found_on e xs b zs d ys k st (inr c) =
       let is : Class d (args_at h e xs d (put_args (put_in (h.params b) zs) c.args)) ≡ Class d (args_at h b (args_at h e xs b zs) d c.args) = at_twice e xs b zs (Class d c.args) k st (placed h valid c.there).over in
       let args : args_at h e xs d (put_args (put_in (h.params b) zs) c.args) ≡ args_at h b (args_at h e xs b zs) d c.args = cc in
-      inr (record { args = put_args (put_in (h.params b) zs) c.args; there = super_joins st c.there; all = subst (λ us. All_by (Rel h) (h.params d) (h.params d) us ys) (sym args) c.all })
+      inr (record { args = put_args (put_in (h.params b) zs) c.args; there = super_joins st c.there; all = subst (λ us. All_by (Rel h) (star_bound h d) (h.params d) us ys) (sym args) c.all })
 
   found_above : (n : ℕ) → Finds n → (e : ℕ) → valid.acyclic.rank e < suc n → (xs : Args) → Exact_args xs → Keeps h e xs → (d : ℕ) (ys : Args) → (t : Ty) → Supertype h e t → RanksBelow valid.acyclic.rank (valid.acyclic.rank e) t →
       Rel h (up h (class_given h e xs) t) (Class d ys) → Found e xs d ys
@@ -349,7 +349,7 @@ module _ (h : Heads) (valid : ValidHeads h) where
       (inr (record {
         args = own_args (h.params e);
         there = own;
-        all = subst (λ vs. All_by (Rel h) (h.params e) (h.params e) vs ys) (sym (own_at e xs k f)) (all_first h (h.params e) (h.params e) xs us ys k (firm_choice e xs us k f q i) all);
+        all = subst (λ vs. All_by (Rel h) (star_bound h e) (h.params e) vs ys) (sym (own_at e xs k f)) (all_first h (star_bound h e) (h.params e) xs us ys k (firm_choice e xs us k f q i) all);
       }))
   found_way n go e le xs us k f q d ys i (by_super t j nc r) =
       found_super n go e le xs k q d ys (above_only h e t j) nc

@@ -15,6 +15,7 @@ mod Exacts
 mod CoreInWhole
 mod Questions
 mod Upwards
+mod Stars
 mod Grows
 mod Reflexive
 mod Ranked
@@ -29,3 +30,13 @@ mod ExampleValid
 mod Instances
 mod Viewed
 mod Agreeing
+mod Settled
+mod Climbs
+mod Sizes
+mod Loose
+mod Turned
+mod Nesting
+mod Ends
+mod ExampleOrdered
+mod ExampleEnds
+mod ExampleTrees

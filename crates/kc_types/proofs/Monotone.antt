@@ -1,5 +1,5 @@
 -- Over lists of arguments that are firmly contained a type taken upwards keeps its side, and so it does downwards, turned round.
-use Rattle.std.proofs.Common.{◌≡◌, ℕ, Bool, true, false, nat_eq, List, [], ◌∷◌, Option, Some, None, cond, length, refl, sym, subst}
+use Rattle.std.proofs.Common.{◌≡◌, ℕ, Bool, true, false, nat_eq, List, [], ◌∷◌, Option, Some, None, cond, refl, sym, subst}
 use Rattle.kc_types.specs.Types.{Ty, Class, Param, Nothing, Nullable, Arg, Exact, Out, In, Star, Args, none, more, Variance, Invariant, Covariant, Contravariant, HeadParam, Heads, Given, nullable, given, is_given_projection, names, names_arg, names_args, value_up, value_down, alone, variance_at, rest_of, projected, down_arg, unless_against, blocked, up, down, up_arg, up_args, down_args, each_up, each_down, star_bound, given_all, reduced, reduced_args}
 use Rattle.kc_types.specs.Subtype.{read}
 use Rattle.kc_types.specs.Formed.{Formed, Arg_formed, Args_formed}
@@ -314,14 +314,14 @@ module _ (h : Heads) (vary : FunctionsVary h) (variance : ℕ → Variance) (gs 
 
   mutual
     pub raised : (t : Ty) → Formed h t → Stands h variance Covariant t → FormedSub h (up h gs t) (up h ks t)
-    raised (Class c xs) k w = arguments (raised_args (h.is_function c) (h.params c) (h.params c) xs (λ e. vary c e) k.1 w)
+    raised (Class c xs) k w = arguments (raised_args (h.is_function c) (star_bound h c) (h.params c) xs (λ e. vary c e) k.1 w)
     raised (Param x) k w = value_raised h (variance x) x (given gs x) (given ks x) (pairs x) w
     raised Nothing k w = same
     raised (Nullable t) k w = nullables h (up h gs t) (up h ks t) (up_formed h ks fine_too t k.1) (raised t k.1 w)
 
-    raised_args : (f : Bool) (all ps : List HeadParam) (xs : Args) → (f ≡ true → Varies ps) → Args_formed h ps xs → All_stand h variance Covariant ps xs → FormedAll h all ps (up_args h gs f ps xs) (up_args h ks f ps xs)
+    raised_args : (f : Bool) (all : HeadParam → Ty) (ps : List HeadParam) (xs : Args) → (f ≡ true → Varies ps) → Args_formed h ps xs → All_stand h variance Covariant ps xs → FormedAll h all ps (up_args h gs f ps xs) (up_args h ks f ps xs)
     raised_args f all [] none n k w = end
-    raised_args f all (p ∷ ps) (more a xs) n k w = next (raised_arg f p.variance (star_bound (length all) all p.bound) a (λ e. (n e).0) k.0 w.0) (raised_args f all ps xs (λ e. (n e).1) k.1 w.1)
+    raised_args f all (p ∷ ps) (more a xs) n k w = next (raised_arg f p.variance (all p) a (λ e. (n e).0) k.0 w.0) (raised_args f all ps xs (λ e. (n e).1) k.1 w.1)
     raised_args f all [] (more a xs) n k w = absurd w
     raised_args f all (p ∷ ps) none n k w = absurd w
 
@@ -343,16 +343,16 @@ module _ (h : Heads) (vary : FunctionsVary h) (variance : ℕ → Variance) (gs 
     pub lowered : (t : Ty) → Formed h t → Stands h variance Contravariant t → FormedSub h (down h ks t) (down h gs t)
     lowered (Class c xs) k w =
         unless_lowered h (blocked gs (h.params c) xs) (blocked ks (h.params c) xs) (Class c (down_args h gs (h.params c) xs)) (Class c (down_args h ks (h.params c) xs))
-        (unblocked_too (h.params c) xs) (λ e. arguments (lowered_args (h.params c) (h.params c) xs e k.1 w))
+        (unblocked_too (h.params c) xs) (λ e. arguments (lowered_args (star_bound h c) (h.params c) xs e k.1 w))
     lowered (Param x) k w = value_lowered h (variance x) x (given gs x) (given ks x) (pairs x) w
     lowered Nothing k w = same
     lowered (Nullable t) k w = nullables h (down h ks t) (down h gs t) (down_formed h gs fine t k.1) (lowered t k.1 w)
 
-    lowered_args : (all ps : List HeadParam) (xs : Args) → blocked ks ps xs ≡ false → Args_formed h ps xs → All_stand h variance Contravariant ps xs → FormedAll h all ps (down_args h ks ps xs) (down_args h gs ps xs)
+    lowered_args : (all : HeadParam → Ty) (ps : List HeadParam) (xs : Args) → blocked ks ps xs ≡ false → Args_formed h ps xs → All_stand h variance Contravariant ps xs → FormedAll h all ps (down_args h ks ps xs) (down_args h gs ps xs)
     lowered_args all [] none e k w = end
     lowered_args all (p ∷ ps) (more a xs) e k w =
         let q = either_false (elim p.variance [ Invariant ↦ names_arg ks a | Covariant ↦ false | Contravariant ↦ false ]) (blocked ks ps xs) e in
-        next (lowered_arg p.variance (star_bound (length all) all p.bound) a q.0 k.0 w.0) (lowered_args all ps xs q.1 k.1 w.1)
+        next (lowered_arg p.variance (all p) a q.0 k.0 w.0) (lowered_args all ps xs q.1 k.1 w.1)
     lowered_args all [] (more a xs) e k w = absurd w
     lowered_args all (p ∷ ps) none e k w = absurd w
 
@@ -377,10 +377,10 @@ module _ (h : Heads) where
   pair_picked true v w g k o q r s = r
   pair_picked false v w g k o q r s = s
 
-  pub firm_pairs : (all ps : List HeadParam) (xs ys : Args) → Firms (Rel h) all ps xs ys → (x : ℕ) → Pair h (variance_in ps x) (given (given_all all ps (reduced_args ps xs)) x) (given (given_all all ps (reduced_args ps ys)) x)
+  pub firm_pairs : (all : HeadParam → Ty) (ps : List HeadParam) (xs ys : Args) → Firms (Rel h) all ps xs ys → (x : ℕ) → Pair h (variance_in ps x) (given (given_all all ps (reduced_args ps xs)) x) (given (given_all all ps (reduced_args ps ys)) x)
   firm_pairs all [] none none r x = tt
   firm_pairs all (p ∷ ps) (more a xs) (more b ys) r x =
-      pair_picked (nat_eq p.var x) p.variance (variance_in ps x) (record { var = p.var; arg = reduced p.variance a; top = star_bound (length all) all p.bound }) (record { var = p.var; arg = reduced p.variance b; top = star_bound (length all) all p.bound })
+      pair_picked (nat_eq p.var x) p.variance (variance_in ps x) (record { var = p.var; arg = reduced p.variance a; top = all p }) (record { var = p.var; arg = reduced p.variance b; top = all p })
       (given (given_all all ps (reduced_args ps xs)) x) (given (given_all all ps (reduced_args ps ys)) x) (refl, r.0) (firm_pairs all ps xs ys r.1 x)
   firm_pairs all [] none (more b ys) r x = absurd r
   firm_pairs all [] (more a xs) ys r x = absurd r

@@ -1,6 +1,6 @@
 -- What is below has, in its outermost layer, the form that the recursion looks for, with what is below inside.
-use Rattle.std.proofs.Common.{◌≡◌, ℕ, ◌<◌, ◌≤◌, Bool, true, false, nat_eq, List, [], ◌∷◌, Option, Some, cond, length, refl, sym, ap, subst, ◌∙◌, ◌⊎◌, inl, inr, eqb-true, eq-eqb, arith}
-use Rattle.kc_types.specs.Types.{Ty, Class, Param, Nothing, Nullable, Arg, Exact, Out, In, Star, Args, none, more, Variance, Invariant, Covariant, Contravariant, HeadParam, Heads, Given, given, star_bound, given_all, up, class_given, reduced_args}
+use Rattle.std.proofs.Common.{◌≡◌, ℕ, ◌<◌, ◌≤◌, Bool, true, false, nat_eq, List, [], ◌∷◌, refl, sym, ap, subst, ◌∙◌, ◌⊎◌, inl, inr, eqb-true, eq-eqb, arith}
+use Rattle.kc_types.specs.Types.{Ty, Class, Param, Nothing, Nullable, Arg, Exact, Out, In, Star, Args, none, more, Variance, Invariant, Covariant, Contravariant, HeadParam, Heads, given, star_bound, given_all, up, class_given, reduced_args}
 use Rattle.kc_types.specs.Supertypes.{IsIn, here, later, Supertype, put, put_in, above, is_class, own_type, RanksBelow, Acyclic}
 use Rattle.kc_types.specs.Supertypes.Supertype.{own, next as on_from}
 use Rattle.kc_types.specs.Subtype.{read, options, choices, choices_by, class_choices, is_param, is_anything}
@@ -14,7 +14,8 @@ use Rattle.kc_types.proofs.Listed.{all_listed}
 use Rattle.kc_types.proofs.Supertypes.{above_only}
 use Rattle.kc_types.proofs.Reflexive.{itself_chosen, chosen_twice, own_reduced, reduced_formed, only_none}
 use Rattle.kc_types.proofs.Placed.{placed}
-use Rattle.kc_types.proofs.FormedUp.{Given_formed, up_formed}
+use Rattle.kc_types.proofs.FormedUp.{Given_formed, given_picked, up_formed}
+use Rattle.kc_types.proofs.Stars.{star_formed}
 use Rattle.kc_types.proofs.Firm.{Rel, rel_same, rel_through, In_by, All_by, Firms, Firmly_chosen, Tops, firms_in, firms_through, class_chosen, class_followed, all_by}
 use Rattle.kc_types.proofs.Monotone.{raised, firm_pairs}
 
@@ -54,7 +55,7 @@ module _ (h : Heads) (ordered : Acyclic h) where
 module _ (h : Heads) where
   -- from a choice of the arguments: by these, or on from a supertype
   pub data Way (c : ℕ) (xs : Args) (d : ℕ) (ys : Args) : Type 0 where
-    by_args : c ≡ d → All_by (Rel h) (h.params c) (h.params c) xs ys → Way c xs d ys
+    by_args : c ≡ d → All_by (Rel h) (star_bound h c) (h.params c) xs ys → Way c xs d ys
     by_super : (t : Ty) → IsIn Ty t (above h c) → is_class c t ≡ false → Rel h (up h (class_given h c xs) t) (Class d ys) → Way c xs d ys
 
   pub record Chosen_way (c : ℕ) (xs : Args) (d : ℕ) (ys : Args) : Type 0 where
@@ -107,28 +108,24 @@ option_formed h Invariant top Star b t k here = k
 option_formed h Invariant top Star b t k (later here) = t
 option_formed h Invariant top Star b t k (later (later i)) = elim i [ ]
 
-choice_formed : (h : Heads) (all ps : List HeadParam) (xs ys : Args) → Tops h all ps → Args_formed h ps xs → IsIn Args ys (choices all ps xs) → Args_formed h ps ys
+choice_formed : (h : Heads) (all : HeadParam → Ty) (ps : List HeadParam) (xs ys : Args) → Tops h all ps → Args_formed h ps xs → IsIn Args ys (choices all ps xs) → Args_formed h ps ys
 choice_formed h all [] none ys t k i = subst (λ us. Args_formed h [] us) (sym (only_none ys i)) tt
 choice_formed h all [] (more a xs) ys t k i = absurd k
 choice_formed h all (p ∷ ps) none ys t k i = absurd k
 choice_formed h all (p ∷ ps) (more a xs) ys t k i =
-    let m = made (options p.variance (star_bound (length all) all p.bound) a) (choices all ps xs) ys i in
+    let m = made (options p.variance (all p) a) (choices all ps xs) ys i in
     subst (λ us. Args_formed h (p ∷ ps) us) (sym m.is)
-    (option_formed h p.variance (star_bound (length all) all p.bound) a m.a (t p here) k.0 m.first_in, choice_formed h all ps xs m.xs (λ q j. t q (later j)) k.1 m.rest_in)
+    (option_formed h p.variance (all p) a m.a (t p here) k.0 m.first_in, choice_formed h all ps xs m.xs (λ q j. t q (later j)) k.1 m.rest_in)
 
-by_formed : (h : Heads) (v : Bool) (ps : List HeadParam) (xs ys : Args) → Tops h ps ps → (v ≡ true → Exact_args xs) → Args_formed h ps xs → IsIn Args ys (choices_by v ps xs) → (v ≡ true → Exact_args ys) × Args_formed h ps ys
-by_formed h true ps xs ys t e k here = (e, k)
-by_formed h true ps xs ys t e k (later i) = elim i [ ]
-by_formed h false ps xs ys t e k i = (λ f. no (sym f), choice_formed h ps ps xs ys t k i)
+by_formed : (h : Heads) (v : Bool) (all : HeadParam → Ty) (ps : List HeadParam) (xs ys : Args) → Tops h all ps → (v ≡ true → Exact_args xs) → Args_formed h ps xs → IsIn Args ys (choices_by v all ps xs) → (v ≡ true → Exact_args ys) × Args_formed h ps ys
+by_formed h true all ps xs ys t e k here = (e, k)
+by_formed h true all ps xs ys t e k (later i) = elim i [ ]
+by_formed h false all ps xs ys t e k i = (λ f. no (sym f), choice_formed h all ps xs ys t k i)
 
-given_picked : (h : Heads) (b : Bool) (g : Given) (o : Option Given) → Given_formed h (Some g) → Given_formed h o → Given_formed h (cond b (Some g) o)
-given_picked h true g o k l = k
-given_picked h false g o k l = l
-
-given_formed : (h : Heads) (all ps : List HeadParam) (xs : Args) → Tops h all ps → Args_formed h ps xs → (x : ℕ) → Given_formed h (given (given_all all ps xs) x)
+given_formed : (h : Heads) (all : HeadParam → Ty) (ps : List HeadParam) (xs : Args) → Tops h all ps → Args_formed h ps xs → (x : ℕ) → Given_formed h (given (given_all all ps xs) x)
 given_formed h all [] none t k x = tt
 given_formed h all (p ∷ ps) (more a xs) t k x =
-    given_picked h (nat_eq p.var x) (record { var = p.var; arg = a; top = star_bound (length all) all p.bound }) (given (given_all all ps xs) x) (k.0, t p here) (given_formed h all ps xs (λ q j. t q (later j)) k.1 x)
+    given_picked h (nat_eq p.var x) (record { var = p.var; arg = a; top = all p }) (given (given_all all ps xs) x) (k.0, t p here) (given_formed h all ps xs (λ q j. t q (later j)) k.1 x)
 given_formed h all [] (more a xs) t k x = absurd k
 given_formed h all (p ∷ ps) none t k x = absurd k
 
@@ -147,57 +144,57 @@ in_same h Contravariant top (Out t) k = tt
 in_same h Contravariant top (In t) k = rel_same h t k
 in_same h Contravariant top Star k = tt
 
-all_same : (h : Heads) (all ps : List HeadParam) (xs : Args) → Args_formed h ps xs → All_by (Rel h) all ps xs xs
+all_same : (h : Heads) (all : HeadParam → Ty) (ps : List HeadParam) (xs : Args) → Args_formed h ps xs → All_by (Rel h) all ps xs xs
 all_same h all [] none k = tt
-all_same h all (p ∷ ps) (more a xs) k = (in_same h p.variance (star_bound (length all) all p.bound) a k.0, all_same h all ps xs k.1)
+all_same h all (p ∷ ps) (more a xs) k = (in_same h p.variance (all p) a k.0, all_same h all ps xs k.1)
 all_same h all [] (more a xs) k = absurd k
 all_same h all (p ∷ ps) none k = absurd k
 
-all_same_reduced : (h : Heads) (all ps : List HeadParam) (xs : Args) → Args_formed h ps xs → All_by (Rel h) all ps xs (reduced_args ps xs)
+all_same_reduced : (h : Heads) (all : HeadParam → Ty) (ps : List HeadParam) (xs : Args) → Args_formed h ps xs → All_by (Rel h) all ps xs (reduced_args ps xs)
 all_same_reduced h all [] none k = tt
 all_same_reduced h all (p ∷ ps) (more a xs) k = (
-  subst (λ b. In_by (Rel h) (star_bound (length all) all p.bound) (read p.variance a) b) (sym (read_reduced p.variance a)) (in_same h p.variance (star_bound (length all) all p.bound) a k.0),
+  subst (λ b. In_by (Rel h) (all p) (read p.variance a) b) (sym (read_reduced p.variance a)) (in_same h p.variance (all p) a k.0),
   all_same_reduced h all ps xs k.1,
 )
 all_same_reduced h all [] (more a xs) k = absurd k
 all_same_reduced h all (p ∷ ps) none k = absurd k
 
-no_args : (R : Ty → Ty → Type 0) (all ps : List HeadParam) (xs ys : Args) → ps ≡ [] → All_by R all ps xs ys → ys ≡ none
+no_args : (R : Ty → Ty → Type 0) (all : HeadParam → Ty) (ps : List HeadParam) (xs ys : Args) → ps ≡ [] → All_by R all ps xs ys → ys ≡ none
 no_args R all [] none none e r = refl
 no_args R all [] none (more b ys) e r = absurd r
 no_args R all [] (more a xs) ys e r = absurd r
 no_args R all (p ∷ ps) xs ys e r = absurd (cc)
 
 module _ (h : Heads) (valid : ValidHeads h) where
-  pub tops : (c : ℕ) → Tops h (h.params c) (h.params c)
-  tops c p i = valid.tops c p i
+  pub tops : (c : ℕ) → Tops h (star_bound h c) (h.params c)
+  tops c p i = star_formed h valid.plain c (valid.class_bounds c) p i
 
   pub givens : (c : ℕ) (xs : Args) → Args_formed h (h.params c) xs → (x : ℕ) → Given_formed h (given (class_given h c xs) x)
-  givens c xs k x = given_formed h (h.params c) (h.params c) (reduced_args (h.params c) xs) (tops c) (reduced_formed h (h.params c) xs k) x
+  givens c xs k x = given_formed h (star_bound h c) (h.params c) (reduced_args (h.params c) xs) (tops c) (reduced_formed h (h.params c) xs k) x
 
   pub class_formed : (c : ℕ) (xs ys : Args) → Formed h (Class c xs) → IsIn Args ys (class_choices h c xs) → Formed h (Class c ys)
-  class_formed c xs ys k i = by_formed h (h.is_function c) (h.params c) xs ys (tops c) k.0 k.1 i
+  class_formed c xs ys k i = by_formed h (h.is_function c) (star_bound h c) (h.params c) xs ys (tops c) k.0 k.1 i
 
   -- over firmly contained arguments a supertype is below
-  pub raised_super : (c : ℕ) (xs ys : Args) (t : Ty) → Supertype h c t → Args_formed h (h.params c) xs → Args_formed h (h.params c) ys → Firms (Rel h) (h.params c) (h.params c) xs ys →
+  pub raised_super : (c : ℕ) (xs ys : Args) (t : Ty) → Supertype h c t → Args_formed h (h.params c) xs → Args_formed h (h.params c) ys → Firms (Rel h) (star_bound h c) (h.params c) xs ys →
       Rel h (up h (class_given h c xs) t) (up h (class_given h c ys) t)
   raised_super c xs ys t st k l r = (
     up_formed h (class_given h c xs) (givens c xs k) t (placed h valid st).formed,
     up_formed h (class_given h c ys) (givens c ys l) t (placed h valid st).formed,
-    raised h valid.functions (variance_in (h.params c)) (class_given h c xs) (class_given h c ys) (givens c xs k) (givens c ys l) (firm_pairs h (h.params c) (h.params c) xs ys r) t (placed h valid st).formed (placed h valid st).stand,
+    raised h valid.functions (variance_in (h.params c)) (class_given h c xs) (class_given h c ys) (givens c xs k) (givens c ys l) (firm_pairs h (star_bound h c) (h.params c) xs ys r) t (placed h valid st).formed (placed h valid st).stand,
   )
 
   -- ---- one after the other
   twice : (c : ℕ) (xs ys zs : Args) → IsIn Args ys (class_choices h c xs) → IsIn Args zs (class_choices h c ys) → IsIn Args zs (class_choices h c xs)
-  twice c xs ys zs i j = chosen_twice (h.is_function c) (h.params c) xs ys zs i j
+  twice c xs ys zs i j = chosen_twice (h.is_function c) (star_bound h c) (h.params c) xs ys zs i j
 
-  firmly : (c : ℕ) (xs ys : Args) → Formed h (Class c xs) → Formed h (Class c ys) → All_by (Rel h) (h.params c) (h.params c) xs ys → Firmly_chosen h (h.is_function c) (h.params c) xs ys
-  firmly c xs ys k l r = class_chosen h (h.is_function c) (h.params c) xs ys (tops c) k.0 l.0 r
+  firmly : (c : ℕ) (xs ys : Args) → Formed h (Class c xs) → Formed h (Class c ys) → All_by (Rel h) (star_bound h c) (h.params c) xs ys → Firmly_chosen h (h.is_function c) (star_bound h c) (h.params c) xs ys
+  firmly c xs ys k l r = class_chosen h (h.is_function c) (star_bound h c) (h.params c) xs ys (tops c) k.0 l.0 r
 
-  follow : (c : ℕ) (xs ys zs : Args) → Firms (Rel h) (h.params c) (h.params c) xs ys → IsIn Args zs (class_choices h c ys) → Firmly_chosen h (h.is_function c) (h.params c) xs zs
-  follow c xs ys zs r i = class_followed h (h.is_function c) (h.params c) xs ys zs (tops c) r i
+  follow : (c : ℕ) (xs ys zs : Args) → Firms (Rel h) (star_bound h c) (h.params c) xs ys → IsIn Args zs (class_choices h c ys) → Firmly_chosen h (h.is_function c) (star_bound h c) (h.params c) xs zs
+  follow c xs ys zs r i = class_followed h (h.is_function c) (star_bound h c) (h.params c) xs ys zs (tops c) r i
 
-  by_last : (c : ℕ) (xs gs vs : Args) (e : ℕ) (zs : Args) → Formed h (Class c gs) → Formed h (Class c vs) → Formed h (Class e zs) → IsIn Args gs (class_choices h c xs) → Firms (Rel h) (h.params c) (h.params c) gs vs →
+  by_last : (c : ℕ) (xs gs vs : Args) (e : ℕ) (zs : Args) → Formed h (Class c gs) → Formed h (Class c vs) → Formed h (Class e zs) → IsIn Args gs (class_choices h c xs) → Firms (Rel h) (star_bound h c) (h.params c) gs vs →
       Way h c vs e zs → Chosen_way h c xs e zs
   by_last c xs gs vs e zs k l z i r (by_args s all) =
       let f = firmly c vs zs l (subst (λ q. Formed h (Class q zs)) (sym s) z) all in
@@ -205,7 +202,7 @@ module _ (h : Heads) (valid : ValidHeads h) where
       record {
         args = g.args;
         there = twice c xs gs g.args i g.there;
-        way = by_args s (firms_in (Rel h) (h.params c) (h.params c) g.args zs (firms_through h (h.params c) (h.params c) g.args f.args zs g.firm f.firm));
+        way = by_args s (firms_in (Rel h) (star_bound h c) (h.params c) g.args zs (firms_through h (star_bound h c) (h.params c) g.args f.args zs g.firm f.firm));
       }
   by_last c xs gs vs e zs k l z i r (by_super t j n q) = record {
     args = gs;
@@ -213,7 +210,7 @@ module _ (h : Heads) (valid : ValidHeads h) where
     way = by_super t j n (rel_through h (up h (class_given h c gs) t) (up h (class_given h c vs) t) (Class e zs) (raised_super c gs vs t (above_only h c t j) k.1 l.1 r) q);
   }
 
-  at_same : (c : ℕ) (xs us ys : Args) (e : ℕ) (zs : Args) → Formed h (Class c xs) → Formed h (Class c ys) → Formed h (Class e zs) → IsIn Args us (class_choices h c xs) → All_by (Rel h) (h.params c) (h.params c) us ys →
+  at_same : (c : ℕ) (xs us ys : Args) (e : ℕ) (zs : Args) → Formed h (Class c xs) → Formed h (Class c ys) → Formed h (Class e zs) → IsIn Args us (class_choices h c xs) → All_by (Rel h) (star_bound h c) (h.params c) us ys →
       Chosen_way h c ys e zs → Chosen_way h c xs e zs
   at_same c xs us ys e zs k l z i all w =
       let f = firmly c us ys (class_formed c xs us k i) l all in
@@ -228,7 +225,7 @@ module _ (h : Heads) (valid : ValidHeads h) where
   way_through c xs us d ys e zs k i r (by_super t j n q) w = record { args = us; there = i; way = by_super t j n (rel_through h (up h (class_given h c us) t) (Class d ys) (Class e zs) q r) }
 
   -- nothing but itself is above the class of all objects
-  nothing_above : {c : ℕ} {t : Ty} → Supertype h c t → c ≡ h.any → t ≡ own_type h c
+  pub nothing_above : {c : ℕ} {t : Ty} → Supertype h c t → c ≡ h.any → t ≡ own_type h c
   nothing_above own e = refl
   nothing_above {c = c} (on_from {d = b} {xs = ys} {s = s} st i) e =
       let q : Class b ys ≡ own_type h c = nothing_above st e in
@@ -239,7 +236,7 @@ module _ (h : Heads) (valid : ValidHeads h) where
   own_there c t e n = no (sym (eq-eqb c c refl) ∙ subst (λ u. is_class c u ≡ false) e n)
 
   any_way : (d : ℕ) (us : Args) (e : ℕ) (zs : Args) → d ≡ h.any → Way h d us e zs → (e ≡ h.any) × (zs ≡ none)
-  any_way d us e zs q (by_args s all) = (sym s ∙ q, no_args (Rel h) (h.params d) (h.params d) us zs (ap h.params q ∙ valid.plain) all)
+  any_way d us e zs q (by_args s all) = (sym s ∙ q, no_args (Rel h) (star_bound h d) (h.params d) us zs (ap h.params q ∙ valid.plain) all)
   any_way d us e zs q (by_super t i n r) = absurd (own_there d t (nothing_above (above_only h d t i) q) n)
 
   any_only : (d : ℕ) (ys : Args) (e : ℕ) (zs : Args) → d ≡ h.any → Fits h d ys e zs → (e ≡ h.any) × (zs ≡ none)
@@ -314,7 +311,7 @@ module _ (h : Heads) (valid : ValidHeads h) where
   -- ---- each rule
   same_class : (c : ℕ) (xs : Args) → Formed h (Class c xs) → Of_class h c xs (Class c xs)
   same_class c xs k =
-      (rel_same h (Class c xs) k, inr (record { args = xs; there = itself_chosen h (h.is_function c) (h.params c) xs k.1; way = by_args refl (all_same h (h.params c) (h.params c) xs k.1) }))
+      (rel_same h (Class c xs) k, inr (record { args = xs; there = itself_chosen h (h.is_function c) (star_bound h c) (h.params c) xs k.1; way = by_args refl (all_same h (star_bound h c) (h.params c) xs k.1) }))
 
   of_mark : (a : Ty) → Unmarked a → Formed h a → Of h a (Nullable a)
   of_mark Nothing u k = tt
@@ -333,7 +330,7 @@ module _ (h : Heads) (valid : ValidHeads h) where
       let e = own_reduced h valid.different c xs k in
       subst (λ t. Of_class h c xs t) (sym e) (
         (k, subst (λ t. Formed h t) e l, subst (λ t. FormedSub h (Class c xs) t) e (super own)),
-        inr (record { args = xs; there = itself_chosen h (h.is_function c) (h.params c) xs k.1; way = by_args refl (all_same_reduced h (h.params c) (h.params c) xs k.1) }),
+        inr (record { args = xs; there = itself_chosen h (h.is_function c) (star_bound h c) (h.params c) xs k.1; way = by_args refl (all_same_reduced h (star_bound h c) (h.params c) xs k.1) }),
       )
 
   of_other : (c : ℕ) (xs : Args) (t : Ty) → Supertype h c t → RanksBelow valid.acyclic.rank (valid.acyclic.rank c) t → Formed h (Class c xs) → Formed h (up h (class_given h c xs) t) → Of_class h c xs (up h (class_given h c xs) t)
@@ -341,7 +338,7 @@ module _ (h : Heads) (valid : ValidHeads h) where
     (k, l, super st),
     inr (record {
       args = xs;
-      there = itself_chosen h (h.is_function c) (h.params c) xs k.1;
+      there = itself_chosen h (h.is_function c) (star_bound h c) (h.params c) xs k.1;
       way = by_super (Class d ws) (all_listed h valid.acyclic c (Class d ws) st) (other_class h valid.acyclic c (Class d ws) (is_class c (Class d ws)) refl low) (rel_same h (up h (class_given h c xs) (Class d ws)) l);
     }),
   )
@@ -367,5 +364,5 @@ module _ (h : Heads) (valid : ValidHeads h) where
   outermost (object {c = c} {xs = xs}) k l = inr ((k, l, object), inl (refl, refl))
   outermost (super {c = c} {xs = xs} st) k l = inr (of_super c xs st k l)
   outermost (arguments {c = c} {xs = xs} {ys = ys} ds) k l =
-      inr ((k, l, arguments ds), inr (record { args = xs; there = itself_chosen h (h.is_function c) (h.params c) xs k.1; way = by_args refl (all_by h ds (tops c) k.1 l.1) }))
+      inr ((k, l, arguments ds), inr (record { args = xs; there = itself_chosen h (h.is_function c) (star_bound h c) (h.params c) xs k.1; way = by_args refl (all_by h ds (tops c) k.1 l.1) }))
   outermost (bound {x = x}) k l = inr (inr (rel_same h (h.bound_of x) l))

@@ -1,5 +1,5 @@
 -- What is below is refused at no height.
-use Rattle.std.proofs.Common.{◌≡◌, ℕ, zero, suc, Bool, true, nat_eq, List, [], ◌∷◌, ◌&&◌, length, refl, sym, subst, eq-eqb, inl, inr}
+use Rattle.std.proofs.Common.{◌≡◌, ℕ, zero, suc, Bool, true, nat_eq, List, [], ◌∷◌, ◌&&◌, refl, sym, subst, eq-eqb, inl, inr}
 use Rattle.kc_types.specs.Types.{Ty, Class, Param, Nothing, Nullable, Arg, Exact, Out, In, Star, Args, none, more, HeadParam, Heads, up, star_bound, class_given}
 use Rattle.kc_types.specs.Subtype.{read, contains_with, all_with, fits_with, any_fits, class_choices, class_with, is_empty, is_param, is_anything, layer, perhaps}
 use Rattle.kc_types.specs.FormedSub.{ValidHeads}
@@ -29,18 +29,18 @@ module _ (h : Heads) (go : Ty → Ty → Bool) (yes : (a b : Ty) → Rel h a b �
   contains_true top Star (In b) r = absurd r
   contains_true top Star Star r = refl
 
-  all_true : (all ps : List HeadParam) (xs ys : Args) → All_by (Rel h) all ps xs ys → all_with go all ps xs ys ≡ true
+  all_true : (all : HeadParam → Ty) (ps : List HeadParam) (xs ys : Args) → All_by (Rel h) all ps xs ys → all_with go all ps xs ys ≡ true
   all_true all [] none none r = refl
   all_true all (p ∷ ps) (more a xs) (more b ys) r =
-      and_true (contains_with go (star_bound (length all) all p.bound) (read p.variance a) (read p.variance b)) (all_with go all ps xs ys)
-      (contains_true (star_bound (length all) all p.bound) (read p.variance a) (read p.variance b) r.0) (all_true all ps xs ys r.1)
+      and_true (contains_with go (all p) (read p.variance a) (read p.variance b)) (all_with go all ps xs ys)
+      (contains_true (all p) (read p.variance a) (read p.variance b) r.0) (all_true all ps xs ys r.1)
   all_true all [] none (more b ys) r = absurd r
   all_true all [] (more a xs) ys r = absurd r
   all_true all (p ∷ ps) none ys r = absurd r
   all_true all (p ∷ ps) (more a xs) none r = absurd r
 
   way_true : (c : ℕ) (us : Args) (d : ℕ) (ys : Args) → Way h c us d ys → fits_with go h c us d ys ≡ true
-  way_true c us d ys (by_args s all) = subst (λ q. fits_with go h c us q ys ≡ true) s (same_fits h go c us ys (all_true (h.params c) (h.params c) us ys all))
+  way_true c us d ys (by_args s all) = subst (λ q. fits_with go h c us q ys ≡ true) s (same_fits h go c us ys (all_true (star_bound h c) (h.params c) us ys all))
   way_true c us d ys (by_super t i n r) = super_fits h go c us d ys t i n (yes (up h (class_given h c us) t) (Class d ys) r)
 
   any_true : (d : ℕ) (ys : Args) → d ≡ h.any → ys ≡ none → (nat_eq d h.any && is_empty ys) ≡ true

@@ -1,5 +1,5 @@
 -- What the recursion accepts is in the relation.
-use Rattle.std.proofs.Common.{◌≡◌, ℕ, zero, suc, Bool, true, false, nat_eq, List, [], ◌∷◌, ◌&&◌, length, map, refl, sym, subst, ⊎_elim, eqb-true}
+use Rattle.std.proofs.Common.{◌≡◌, ℕ, zero, suc, Bool, true, false, nat_eq, List, [], ◌∷◌, ◌&&◌, map, refl, sym, subst, ⊎_elim, eqb-true}
 use Rattle.std.proofs.lemmas.Bool.{and_parts, or_cases}
 use Rattle.kc_types.specs.Types.{Ty, Class, Param, Nothing, Nullable, Arg, Exact, Out, In, Star, Args, none, more, Variance, Invariant, Covariant, Contravariant, HeadParam, Heads, star_bound, up, class_given}
 use Rattle.kc_types.specs.Supertypes.{IsIn, here, later, Supertype, above, is_class}
@@ -42,7 +42,7 @@ made (a ∷ first) xss y i = ⊎_elim
     (in_append y (map (λ xs. more a xs) xss) (each_first first xss) i)
 
 -- by way of stars
-record By_stars (h : Heads) (all ps : List HeadParam) (xs ys : Args) : Type 0 where
+record By_stars (h : Heads) (all : HeadParam → Ty) (ps : List HeadParam) (xs ys : Args) : Type 0 where
   mid : Args
   to_mid : All h all ps xs mid
   from_mid : All h all ps mid ys
@@ -78,21 +78,21 @@ option_by_star h Covariant top a b (later (later i)) = elim i [ ]
 option_by_star h Contravariant top a b here = record { one = a; to_one = in_same h top (read Contravariant a); from_one = in_same h top (read Contravariant a) }
 option_by_star h Contravariant top a b (later i) = elim i [ ]
 
-choice_by_stars : (h : Heads) (all ps : List HeadParam) (xs ys : Args) → IsIn Args ys (choices all ps xs) → By_stars h all ps xs ys
+choice_by_stars : (h : Heads) (all : HeadParam → Ty) (ps : List HeadParam) (xs ys : Args) → IsIn Args ys (choices all ps xs) → By_stars h all ps xs ys
 choice_by_stars h all [] none ys here = record { mid = none; to_mid = end; from_mid = end }
 choice_by_stars h all [] none ys (later i) = elim i [ ]
 choice_by_stars h all [] (more a xs) ys i = elim i [ ]
 choice_by_stars h all (p ∷ ps) none ys i = elim i [ ]
 choice_by_stars h all (p ∷ ps) (more a xs) ys i =
-    let m = made (options p.variance (star_bound (length all) all p.bound) a) (choices all ps xs) ys i in
+    let m = made (options p.variance (all p) a) (choices all ps xs) ys i in
     let b = choice_by_stars h all ps xs m.xs m.rest_in in
-    let o = option_by_star h p.variance (star_bound (length all) all p.bound) a m.a m.first_in in
+    let o = option_by_star h p.variance (all p) a m.a m.first_in in
     record { mid = more o.one b.mid; to_mid = next o.to_one b.to_mid; from_mid = subst (λ zs. All h all (p ∷ ps) (more o.one b.mid) zs) (sym m.is) (next o.from_one b.from_mid) }
 
-choice_sound : (h : Heads) (c : ℕ) (v : Bool) (xs ys : Args) → IsIn Args ys (choices_by v (h.params c) xs) → Sub h (Class c xs) (Class c ys)
+choice_sound : (h : Heads) (c : ℕ) (v : Bool) (xs ys : Args) → IsIn Args ys (choices_by v (star_bound h c) (h.params c) xs) → Sub h (Class c xs) (Class c ys)
 choice_sound h c true xs ys here = same
 choice_sound h c true xs ys (later i) = elim i [ ]
-choice_sound h c false xs ys i = let b = choice_by_stars h (h.params c) (h.params c) xs ys i in through (arguments b.to_mid) (arguments b.from_mid)
+choice_sound h c false xs ys i = let b = choice_by_stars h (star_bound h c) (h.params c) xs ys i in through (arguments b.to_mid) (arguments b.from_mid)
 
 module _ (h : Heads) (go : Ty → Ty → Bool) (is : (a b : Ty) → go a b ≡ true → Sub h a b) where
   contains_sound : (top : Ty) (a b : Arg) → contains_with go top a b ≡ true → In_arg h top a b
@@ -110,11 +110,11 @@ module _ (h : Heads) (go : Ty → Ty → Bool) (is : (a b : Ty) → go a b ≡ t
   contains_sound top (In a) (Exact b) e = no e
   contains_sound top Star (Exact b) e = no e
 
-  all_sound : (all ps : List HeadParam) (xs ys : Args) → all_with go all ps xs ys ≡ true → All h all ps xs ys
+  all_sound : (all : HeadParam → Ty) (ps : List HeadParam) (xs ys : Args) → all_with go all ps xs ys ≡ true → All h all ps xs ys
   all_sound all [] none none e = end
   all_sound all (p ∷ ps) (more a xs) (more b ys) e =
-      let q = and_parts (contains_with go (star_bound (length all) all p.bound) (read p.variance a) (read p.variance b)) (all_with go all ps xs ys) e in
-      next (contains_sound (star_bound (length all) all p.bound) (read p.variance a) (read p.variance b) q.0) (all_sound all ps xs ys q.1)
+      let q = and_parts (contains_with go (all p) (read p.variance a) (read p.variance b)) (all_with go all ps xs ys) e in
+      next (contains_sound (all p) (read p.variance a) (read p.variance b) q.0) (all_sound all ps xs ys q.1)
   all_sound all [] (more a xs) ys e = no e
   all_sound all [] none (more b ys) e = no e
   all_sound all (p ∷ ps) none ys e = no e
@@ -127,14 +127,14 @@ module _ (h : Heads) (go : Ty → Ty → Bool) (is : (a b : Ty) → go a b ≡ t
       (λ q. above_sound c xs b ts (λ s i. f s (later i)) q)
       (or_cases (elim (is_class c t) [ true ↦ false | false ↦ go (up h (class_given h c xs) t) b ]) (above_with go h (class_given h c xs) c b ts) e)
 
-  same_sound : (c : ℕ) (xs : Args) (d : ℕ) (ys : Args) → elim (nat_eq c d) [ true ↦ all_with go (h.params c) (h.params c) xs ys | false ↦ false ] ≡ true → Sub h (Class c xs) (Class d ys)
+  same_sound : (c : ℕ) (xs : Args) (d : ℕ) (ys : Args) → elim (nat_eq c d) [ true ↦ all_with go (star_bound h c) (h.params c) xs ys | false ↦ false ] ≡ true → Sub h (Class c xs) (Class d ys)
   same_sound c xs d ys e =
-      let q = one_class (nat_eq c d) (all_with go (h.params c) (h.params c) xs ys) e in
-      subst (λ k. Sub h (Class c xs) (Class k ys)) (eqb-true c d q.0) (arguments (all_sound (h.params c) (h.params c) xs ys q.1))
+      let q = one_class (nat_eq c d) (all_with go (star_bound h c) (h.params c) xs ys) e in
+      subst (λ k. Sub h (Class c xs) (Class k ys)) (eqb-true c d q.0) (arguments (all_sound (star_bound h c) (h.params c) xs ys q.1))
 
   fits_sound : (c : ℕ) (xs : Args) (d : ℕ) (ys : Args) → fits_with go h c xs d ys ≡ true → Sub h (Class c xs) (Class d ys)
   fits_sound c xs d ys e = ⊎_elim (same_sound c xs d ys) (above_sound c xs (Class d ys) (above h c) (above_only h c))
-      (or_cases (elim (nat_eq c d) [ true ↦ all_with go (h.params c) (h.params c) xs ys | false ↦ false ]) (above_with go h (class_given h c xs) c (Class d ys) (above h c)) e)
+      (or_cases (elim (nat_eq c d) [ true ↦ all_with go (star_bound h c) (h.params c) xs ys | false ↦ false ]) (above_with go h (class_given h c xs) c (Class d ys) (above h c)) e)
 
   any_sound : (c : ℕ) (xs : Args) (xss : List Args) (d : ℕ) (ys : Args) → ((zs : Args) → IsIn Args zs xss → Sub h (Class c xs) (Class c zs)) → any_fits go h c xss d ys ≡ true → Sub h (Class c xs) (Class d ys)
   any_sound c xs [] d ys w e = no e

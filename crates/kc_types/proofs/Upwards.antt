@@ -1,5 +1,5 @@
 -- A type taken upwards is above what it is with any arguments that are contained, and downwards below.
-use Rattle.std.proofs.Common.{◌≡◌, ℕ, Bool, true, false, nat_eq, List, [], ◌∷◌, Option, Some, None, cond, length, refl, sym, ap, subst, ◌∙◌}
+use Rattle.std.proofs.Common.{◌≡◌, ℕ, Bool, true, false, nat_eq, List, [], ◌∷◌, Option, Some, None, cond, refl, sym, ap, subst, ◌∙◌}
 use Rattle.kc_types.specs.Types.{Ty, Class, Param, Nothing, Nullable, Arg, Exact, Out, In, Star, Args, none, more, Variance, Invariant, Covariant, Contravariant, HeadParam, Heads, Given, nullable, given, names, names_arg, names_args, value_up, value_down, alone, variance_at, rest_of, projected, exact_up, down_arg, unless_against, blocked, up, down, up_arg, up_args, down_args, each_up, each_down, star_bound, given_all, class_given, reduced, reduced_args}
 use Rattle.kc_types.specs.Supertypes.{put, put_arg, put_args, put_in}
 use Rattle.kc_types.specs.Subtype.{read, Sub, All, In_arg}
@@ -156,18 +156,18 @@ module _ (h : Heads) where
   value_below Contravariant a top Star d m = nothing
   value_below Covariant a top b d m = absurd m
 
-  reads_same : (v : Variance) (top a : Ty) → In_arg h top (read v (Exact a)) (read v (Exact a))
+  pub reads_same : (v : Variance) (top a : Ty) → In_arg h top (read v (Exact a)) (read v (Exact a))
   reads_same Invariant top a = exact same same
   reads_same Covariant top a = out_out same
   reads_same Contravariant top a = in_in same
 
   -- what an argument needs of a type, of it taken upwards and of it taken downwards
-  abbrev Needed : Variance → Ty → Ty → Ty → Type 0
+  abbrev pub Needed : Variance → Ty → Ty → Ty → Type 0
   Needed Covariant a u d = Sub h a u
   Needed Contravariant a u d = Sub h d a
   Needed Invariant a u d = Sub h a u × Sub h d a
 
-  projected_in : (b : Bool) (v : Variance) (top a u d : Ty) → (b ≡ false → u ≡ d) → Needed v a u d → In_arg h top (read v (Exact a)) (read v (projected b v u d))
+  pub projected_in : (b : Bool) (v : Variance) (top a u d : Ty) → (b ≡ false → u ≡ d) → Needed v a u d → In_arg h top (read v (Exact a)) (read v (projected b v u d))
   projected_in true Covariant top a u d e r = out_out r
   projected_in true Contravariant top a u d e r = in_in r
   projected_in true Invariant top a u d e r = out_exact r.0
@@ -176,27 +176,27 @@ module _ (h : Heads) where
   projected_in false Invariant top a u d e r = exact r.0 (subst (λ x. Sub h x a) (sym (e refl)) r.1)
 
   -- a type, and what its parameter stands for
-  abbrev Related : Variance → Ty → ℕ → Option Given → Type 0
+  abbrev pub Related : Variance → Ty → ℕ → Option Given → Type 0
   Related v a x None = a ≡ Param x
   Related v a x (Some g) = In_arg h g.top (read v (Exact a)) (read v g.arg) × Sub h a g.top
 
-  alone_at : (v w : Variance) (upper a : Ty) (x : ℕ) (o : Option Given) → Related v a x o → May v w → In_arg h upper (read w (Exact a)) (read w (alone x o))
+  pub alone_at : (v w : Variance) (upper a : Ty) (x : ℕ) (o : Option Given) → Related v a x o → May v w → In_arg h upper (read w (Exact a)) (read w (alone x o))
   alone_at v w upper a x None r m = subst (λ b. In_arg h upper (read w (Exact a)) (read w (Exact b))) r (reads_same w upper a)
   alone_at v w upper a x (Some g) r m = alone_in v w g.top upper a g.arg m r.0
 
-  above_value : (v : Variance) (a : Ty) (x : ℕ) (o : Option Given) → Related v a x o → May v Covariant → Sub h a (value_up x o)
+  pub above_value : (v : Variance) (a : Ty) (x : ℕ) (o : Option Given) → Related v a x o → May v Covariant → Sub h a (value_up x o)
   above_value v a x None r m = subst (λ b. Sub h a b) r same
   above_value v a x (Some g) r m = value_above v a g.top g.arg r.0 r.1 m
 
-  below_value : (v : Variance) (a : Ty) (x : ℕ) (o : Option Given) → Related v a x o → May v Contravariant → Sub h (value_down x o) a
+  pub below_value : (v : Variance) (a : Ty) (x : ℕ) (o : Option Given) → Related v a x o → May v Contravariant → Sub h (value_down x o) a
   below_value v a x None r m = subst (λ b. Sub h b a) r same
   below_value v a x (Some g) r m = value_below v a g.top g.arg r.0 m
 
-  unless_blocked : (b : Bool) (t u : Ty) → (b ≡ false → Sub h t u) → Sub h (cond b Nothing t) u
+  pub unless_blocked : (b : Bool) (t u : Ty) → (b ≡ false → Sub h t u) → Sub h (cond b Nothing t) u
   unless_blocked true t u f = nothing
   unless_blocked false t u f = f refl
 
-  nullables : (a b : Ty) → Sub h a b → Sub h (nullable a) (nullable b)
+  pub nullables : (a b : Ty) → Sub h a b → Sub h (nullable a) (nullable b)
   nullables a b d = nulls_in h a b (through d (null_in h b))
 
 module _ (h : Heads) (vary : FunctionsVary h) (variance : ℕ → Variance) (gs : List Given) (s : ℕ → Ty) (related : (x : ℕ) → Related h (variance x) (s x) x (given gs x)) where
@@ -216,14 +216,14 @@ module _ (h : Heads) (vary : FunctionsVary h) (variance : ℕ → Variance) (gs 
 
   mutual
     pub above_put : (t : Ty) → Stands h variance Covariant t → Sub h (put s t) (up h gs t)
-    above_put (Class c xs) w = arguments (above_args (h.is_function c) (h.params c) (h.params c) xs (λ e. vary c e) w)
+    above_put (Class c xs) w = arguments (above_args (h.is_function c) (star_bound h c) (h.params c) xs (λ e. vary c e) w)
     above_put (Param x) w = above_value h (variance x) (s x) x (given gs x) (related x) w
     above_put Nothing w = same
     above_put (Nullable t) w = nullables h (put s t) (up h gs t) (above_put t w)
 
-    above_args : (f : Bool) (all ps : List HeadParam) (xs : Args) → (f ≡ true → Varies ps) → All_stand h variance Covariant ps xs → All h all ps (put_args s xs) (up_args h gs f ps xs)
+    above_args : (f : Bool) (all : HeadParam → Ty) (ps : List HeadParam) (xs : Args) → (f ≡ true → Varies ps) → All_stand h variance Covariant ps xs → All h all ps (put_args s xs) (up_args h gs f ps xs)
     above_args f all [] none n w = end
-    above_args f all (p ∷ ps) (more a xs) n w = next (above_arg f p.variance (star_bound (length all) all p.bound) a (λ e. (n e).0) w.0) (above_args f all ps xs (λ e. (n e).1) w.1)
+    above_args f all (p ∷ ps) (more a xs) n w = next (above_arg f p.variance (all p) a (λ e. (n e).0) w.0) (above_args f all ps xs (λ e. (n e).1) w.1)
     above_args f all [] (more a xs) n w = absurd w
     above_args f all (p ∷ ps) none n w = absurd w
 
@@ -243,16 +243,16 @@ module _ (h : Heads) (vary : FunctionsVary h) (variance : ℕ → Variance) (gs 
     above_arg f Invariant top Star n w = star
 
     pub below_put : (t : Ty) → Stands h variance Contravariant t → Sub h (down h gs t) (put s t)
-    below_put (Class c xs) w = unless_blocked h (blocked gs (h.params c) xs) (Class c (down_args h gs (h.params c) xs)) (Class c (put_args s xs)) (λ e. arguments (below_args (h.params c) (h.params c) xs e w))
+    below_put (Class c xs) w = unless_blocked h (blocked gs (h.params c) xs) (Class c (down_args h gs (h.params c) xs)) (Class c (put_args s xs)) (λ e. arguments (below_args (star_bound h c) (h.params c) xs e w))
     below_put (Param x) w = below_value h (variance x) (s x) x (given gs x) (related x) w
     below_put Nothing w = same
     below_put (Nullable t) w = nullables h (down h gs t) (put s t) (below_put t w)
 
-    below_args : (all ps : List HeadParam) (xs : Args) → blocked gs ps xs ≡ false → All_stand h variance Contravariant ps xs → All h all ps (down_args h gs ps xs) (put_args s xs)
+    below_args : (all : HeadParam → Ty) (ps : List HeadParam) (xs : Args) → blocked gs ps xs ≡ false → All_stand h variance Contravariant ps xs → All h all ps (down_args h gs ps xs) (put_args s xs)
     below_args all [] none e w = end
     below_args all (p ∷ ps) (more a xs) e w =
         let q = either_false (elim p.variance [ Invariant ↦ names_arg gs a | Covariant ↦ false | Contravariant ↦ false ]) (blocked gs ps xs) e in
-        next (below_arg p.variance (star_bound (length all) all p.bound) a q.0 w.0) (below_args all ps xs q.1 w.1)
+        next (below_arg p.variance (all p) a q.0 w.0) (below_args all ps xs q.1 w.1)
     below_args all [] (more a xs) e w = absurd w
     below_args all (p ∷ ps) none e w = absurd w
 
@@ -277,21 +277,21 @@ module _ (h : Heads) where
   related_picked true v w t u x g o r q = r
   related_picked false v w t u x g o r q = q
 
-  abbrev At : List HeadParam → List HeadParam → Args → Args → ℕ → Type 0
+  abbrev At : (HeadParam → Ty) → List HeadParam → Args → Args → ℕ → Type 0
   At all ps xs ys x = Related h (variance_in ps x) (put_in ps xs x) x (given (given_all all ps (reduced_args ps ys)) x)
 
-  related_next : (all : List HeadParam) (p : HeadParam) (ps : List HeadParam) (a b : Arg) (xs ys : Args) → In_arg h (star_bound (length all) all p.bound) (read p.variance a) (read p.variance b) →
+  related_next : (all : HeadParam → Ty) (p : HeadParam) (ps : List HeadParam) (a b : Arg) (xs ys : Args) → In_arg h (all p) (read p.variance a) (read p.variance b) →
       Within h all (p ∷ ps) (more a xs) → (x : ℕ) → (Within h all ps xs → At all ps xs ys x) → At all (p ∷ ps) (more a xs) (more b ys) x
   related_next all p ps (Exact t) b xs ys d w x rest =
-      related_picked (nat_eq p.var x) p.variance (variance_in ps x) t (put_in ps xs x) x (record { var = p.var; arg = reduced p.variance b; top = star_bound (length all) all p.bound }) (given (given_all all ps (reduced_args ps ys)) x)
-      (subst (λ c. In_arg h (star_bound (length all) all p.bound) (read p.variance (Exact t)) c) (sym (read_reduced p.variance b)) d, w.0) (rest w.1)
+      related_picked (nat_eq p.var x) p.variance (variance_in ps x) t (put_in ps xs x) x (record { var = p.var; arg = reduced p.variance b; top = all p }) (given (given_all all ps (reduced_args ps ys)) x)
+      (subst (λ c. In_arg h (all p) (read p.variance (Exact t)) c) (sym (read_reduced p.variance b)) d, w.0) (rest w.1)
   related_next all p ps (Out t) b xs ys d w x rest = absurd w
   related_next all p ps (In t) b xs ys d w x rest = absurd w
   related_next all p ps Star b xs ys d w x rest = absurd w
 
-  related_all : {all ps : List HeadParam} {xs ys : Args} → All h all ps xs ys → Within h all ps xs → (x : ℕ) → At all ps xs ys x
+  related_all : {all : HeadParam → Ty} {ps : List HeadParam} {xs ys : Args} → All h all ps xs ys → Within h all ps xs → (x : ℕ) → At all ps xs ys x
   related_all end w x = refl
-  related_all (next {all = all} {p = p} {ps = ps} {a = a} {b = b} {xs = xs} {ys = ys} d ds) w x = related_next all p ps a b xs ys d w x (λ r. related_all ds r x)
+  related_all (next {tops = all} {p = p} {ps = ps} {a = a} {b = b} {xs = xs} {ys = ys} d ds) w x = related_next all p ps a b xs ys d w x (λ r. related_all ds r x)
 
 pub upwards_above : UpwardsIsAbove
 upwards_above h vary c xs ys w d t q = above_put h vary (variance_in (h.params c)) (class_given h c ys) (put_in (h.params c) xs) (related_all h d w) t q

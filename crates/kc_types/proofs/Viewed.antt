@@ -1,5 +1,5 @@
 -- A value of a declared type has the view of that type.
-use Rattle.std.proofs.Common.{◌≡◌, ℕ, zero, suc, ◌+◌, Bool, true, false, List, [], ◌∷◌, Option, Some, None, cond, length, refl, sym, subst, inl, inr, eqb-true}
+use Rattle.std.proofs.Common.{◌≡◌, ℕ, zero, suc, ◌+◌, Bool, true, false, List, [], ◌∷◌, Option, Some, None, cond, refl, sym, subst, inl, inr, eqb-true}
 use Rattle.kc_types.specs.Types.{Ty, Class, Param, Nothing, Nullable, Arg, Exact, Out, In, Star, Args, none, more, Variance, Invariant, Covariant, Contravariant, HeadParam, Heads, Given, given, is_given_projection, unless_against, up, up_arg, up_args, star_bound, class_given}
 use Rattle.kc_types.specs.Supertypes.{Supertype, put_args, put_in, is_class, instance, own_args}
 use Rattle.kc_types.specs.Subtype.{read}
@@ -40,9 +40,9 @@ module _ (h : Heads) where
   in_data top Star (In b) r = absurd r
   in_data top Star Star r = star
 
-  all_data : (all ps : List HeadParam) (xs ys : Args) → All_by (Rel h) all ps xs ys → FormedAll h all ps xs ys
+  all_data : (all : HeadParam → Ty) (ps : List HeadParam) (xs ys : Args) → All_by (Rel h) all ps xs ys → FormedAll h all ps xs ys
   all_data all [] none none r = end
-  all_data all (p ∷ ps) (more a xs) (more b ys) r = next (in_data (star_bound (length all) all p.bound) (read p.variance a) (read p.variance b) r.0) (all_data all ps xs ys r.1)
+  all_data all (p ∷ ps) (more a xs) (more b ys) r = next (in_data (all p) (read p.variance a) (read p.variance b) r.0) (all_data all ps xs ys r.1)
   all_data all [] none (more b ys) r = absurd r
   all_data all [] (more a xs) ys r = absurd r
   all_data all (p ∷ ps) none ys r = absurd r
@@ -128,20 +128,20 @@ module _ (h : Heads) (gs : List Given) (typed : (x : ℕ) → is_given_projectio
   good_alone f x v top (In t) a r e = no (sym e)
   good_alone f x v top Star a r e = no (sym e)
 
-  goods : (f : Bool) (x : ℕ) (all ps : List HeadParam) (zs xs : Args) → All_by (Rel h) all ps (up_args h gs f ps zs) xs → All_good h (up h gs (Param x)) (arguments_at x ps zs xs)
+  goods : (f : Bool) (x : ℕ) (all : HeadParam → Ty) (ps : List HeadParam) (zs xs : Args) → All_by (Rel h) all ps (up_args h gs f ps zs) xs → All_good h (up h gs (Param x)) (arguments_at x ps zs xs)
   goods f x all [] none none r = tt
   goods f x all (p ∷ ps) (more z zs) (more a xs) r =
-      good_picked x (is_alone x z) (read p.variance a) (arguments_at x ps zs xs) (good_alone f x p.variance (star_bound (length all) all p.bound) z a r.0) (goods f x all ps zs xs r.1)
+      good_picked x (is_alone x z) (read p.variance a) (arguments_at x ps zs xs) (good_alone f x p.variance (all p) z a r.0) (goods f x all ps zs xs r.1)
   goods f x all [] none (more a xs) r = absurd r
   goods f x all [] (more z zs) xs r = absurd r
   goods f x all (p ∷ ps) none xs r = absurd r
   goods f x all (p ∷ ps) (more z zs) none r = absurd r
 
-  views : (f : Bool) (all ps ds : List HeadParam) (zs xs : Args) → ((x : ℕ) → All_good h (up h gs (Param x)) (arguments_at x ds zs xs)) → All_by (Rel h) all ps (up_args h gs f ps (own_args ps)) (view_args ps ds zs xs)
+  views : (f : Bool) (all : HeadParam → Ty) (ps ds : List HeadParam) (zs xs : Args) → ((x : ℕ) → All_good h (up h gs (Param x)) (arguments_at x ds zs xs)) → All_by (Rel h) all ps (up_args h gs f ps (own_args ps)) (view_args ps ds zs xs)
   views f all [] ds zs xs g = tt
   views f all (p ∷ ps) ds zs xs g = (
-    subst (λ b. In_by (Rel h) (star_bound (length all) all p.bound) (read p.variance b) (read p.variance (chosen p.variance (arguments_at p.var ds zs xs)))) (sym (exact_is h gs typed f p.variance (Param p.var)))
-        (chosen_in h p.variance (star_bound (length all) all p.bound) (up h gs (Param p.var)) (arguments_at p.var ds zs xs) (g p.var)),
+    subst (λ b. In_by (Rel h) (all p) (read p.variance b) (read p.variance (chosen p.variance (arguments_at p.var ds zs xs)))) (sym (exact_is h gs typed f p.variance (Param p.var)))
+        (chosen_in h p.variance (all p) (up h gs (Param p.var)) (arguments_at p.var ds zs xs) (g p.var)),
     views f all ps ds zs xs g,
   )
 
@@ -163,9 +163,9 @@ module _ (h : Heads) (valid : ValidHeads h) (only : OneInstance h) (e : ℕ) (xs
       let us : Args = here_at c cs in
       let l : Formed h (Class c us) = instance_formed c cs st in
       let typed : Exact_args us = exact_at h valid e xs c cs k st in
-      let all : All_by (Rel h) (h.params c) (h.params c) us (view_args (h.params c) ds zs ys) =
-      subst (λ vs. All_by (Rel h) (h.params c) (h.params c) vs (view_args (h.params c) ds zs ys)) (own_at h valid c us typed l) (views h (class_given h c us) (typed_given h c us typed) (h.is_function c) (h.params c) (h.params c) ds zs ys g) in
-      through l (super st) (arguments (all_data h (h.params c) (h.params c) us (view_args (h.params c) ds zs ys) all))
+      let all : All_by (Rel h) (star_bound h c) (h.params c) us (view_args (h.params c) ds zs ys) =
+      subst (λ vs. All_by (Rel h) (star_bound h c) (h.params c) vs (view_args (h.params c) ds zs ys)) (own_at h valid c us typed l) (views h (class_given h c us) (typed_given h c us typed) (h.is_function c) (star_bound h c) (h.params c) ds zs ys g) in
+      through l (super st) (arguments (all_data h (star_bound h c) (h.params c) us (view_args (h.params c) ds zs ys) all))
 
   by_instance : (c : ℕ) (cs : Args) → Supertype h e (Class c cs) → (d : ℕ) (zs ys : Args) → Supertype h c (Class d zs) → Found h valid e xs d ys → FormedSub h (Class e xs) (Class c (view_args (h.params c) (h.params d) zs ys))
   by_instance c cs st d zs ys sd (inl a) =
@@ -175,9 +175,9 @@ module _ (h : Heads) (valid : ValidHeads h) (only : OneInstance h) (e : ℕ) (xs
       let same : r.args ≡ put_args (put_in (h.params c) cs) zs = only e d r.args (put_args (put_in (h.params c) cs) zs) r.there (super_joins h valid st sd) in
       let is : Class d (args_at h e xs d (put_args (put_in (h.params c) cs) zs)) ≡ Class d (args_at h c us d zs) = at_twice h valid e xs c cs (Class d zs) k st (placed h valid sd).over in
       let args : args_at h e xs d (put_args (put_in (h.params c) cs) zs) ≡ args_at h c us d zs = cc in
-      let all : All_by (Rel h) (h.params d) (h.params d) (args_at h c us d zs) ys =
-      subst (λ vs. All_by (Rel h) (h.params d) (h.params d) vs ys) args (subst (λ vs. All_by (Rel h) (h.params d) (h.params d) (args_at h e xs d vs) ys) same r.all) in
-      by_goods c cs st (h.params d) zs ys (λ x. goods h (class_given h c us) (typed_given h c us (exact_at h valid e xs c cs k st)) (h.is_function d) x (h.params d) (h.params d) zs ys all)
+      let all : All_by (Rel h) (star_bound h d) (h.params d) (args_at h c us d zs) ys =
+      subst (λ vs. All_by (Rel h) (star_bound h d) (h.params d) vs ys) args (subst (λ vs. All_by (Rel h) (star_bound h d) (h.params d) (args_at h e xs d vs) ys) same r.all) in
+      by_goods c cs st (h.params d) zs ys (λ x. goods h (class_given h c us) (typed_given h c us (exact_at h valid e xs c cs k st)) (h.is_function d) x (star_bound h d) (h.params d) zs ys all)
 
   by_none : (c : ℕ) (cs : Args) → Supertype h e (Class c cs) → (ds : List HeadParam) (ys : Args) → FormedSub h (Class e xs) (Class c (view_args (h.params c) ds none ys))
   by_none c cs st ds ys = by_goods c cs st ds none ys (λ x. tt)

@@ -1,4 +1,5 @@
--- The most specific common class of two classes (Kotlin Language Specification 1.9, "Least upper bound", by classes alone).
+-- The most specific common class of two classes, or the class of all objects where none is that alone (Kotlin Language Specification
+-- 1.9, "Least upper bound", by classes alone).
 use Rattle.std.specs.Prelude.{ℕ, Bool, true, false, nat_eq, not, ◌||◌, ◌&&◌, List, [], ◌∷◌, Option, Some, None, cond, filter}
 use Rattle.kc_types.specs.Types.{Ty, Class, Param, Nothing, Nullable, Heads}
 use Rattle.kc_types.specs.Supertypes.{above, instance}
@@ -18,6 +19,7 @@ classes_of (Param x ∷ ts) = classes_of ts
 classes_of (Nothing ∷ ts) = classes_of ts
 classes_of (Nullable t ∷ ts) = classes_of ts
 
+-- the classes above both, in the order of those above the first, where one may stand several times
 abbrev pub common_classes : Heads → ℕ → ℕ → List ℕ
 common_classes h a b = filter (λ c. is_subclass h b c) (classes_of (above h a))
 

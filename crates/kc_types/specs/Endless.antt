@@ -1,12 +1,10 @@
--- Hierarchies that break a rule on supertypes' arguments or on bounds: with questions that lead to themselves or to ever larger
--- ones.
+-- Hierarchies that break a rule on supertypes' arguments or on bounds. Three have a question that leads on to itself, and gets its yes at no
+-- height. One has a question that leads on to larger ones: that it gets no yes is computed at one height alone. In the last an argument
+-- is beyond its bound, and the questions get their yes all the same.
 use Rattle.std.specs.Prelude.{◌≡◌, ℕ, true, false, nat_eq, List, [], ◌∷◌, cond}
 use Rattle.kc_types.specs.Types.{Ty, Param, Nullable, Exact, Out, Star, Invariant, Covariant, Contravariant, HeadParam, Heads}
 use Rattle.kc_types.specs.Subtype.{below}
-use Rattle.kc_types.specs.Examples.{nth, plain, one, two, any_bound}
-
-abbrev pub bounded : ℕ → Ty → HeadParam
-bounded x t = record { var = x; variance = Invariant; bound = t }
+use Rattle.kc_types.specs.Examples.{nth, plain, one, two, any_bound, bounded}
 
 abbrev pub heads_with : ℕ → List (List HeadParam) → List (List Ty) → ℕ → Ty → Heads
 heads_with n ps ss x t = record {
@@ -70,9 +68,9 @@ pub record Endless : Type 0 where
   pub bound : (n : ℕ) → below n by_bound d_of_n (n_of_m 1 2) ≡ false
   -- T below (T) -> Unit, by way of its own bound
   pub function : (n : ℕ) → below n by_function (Param 30) (to_unit (Param 30)) ≡ false
-  -- D<N<M<*>>> below C<N<M<*>>> asks for larger and larger types
+  -- D<N<M<*>>> below C<N<M<*>>> asks for larger and larger types: not yet at a height of 6
   pub larger : below 6 by_larger d_of (c_of (n_of_m 2 3)) ≡ false
-  -- C is below Box<Any>, and that below Box<out Num>, though the argument of C's supertype is beyond its bound
+  -- C is below Box<Any>, that below Box<out Num>, and so is C, though the argument of its supertype is beyond the bound
   pub at_instance : below 4 beyond (plain 3) (one 2 (Exact (plain 0))) ≡ true
   pub beside_bound : below 4 beyond (one 2 (Exact (plain 0))) (one 2 (Out (plain 1))) ≡ true
   pub joined : below 6 beyond (plain 3) (one 2 (Out (plain 1))) ≡ true

@@ -1,6 +1,6 @@
 -- Small hierarchies, computed: what the rules give where a plainer reading of them would give something else.
-use Rattle.std.specs.Prelude.{◌≡◌, ℕ, zero, suc, true, false, nat_eq, List, [], ◌∷◌, Some, None, cond}
-use Rattle.kc_types.specs.Types.{Ty, Class, Param, Nothing, Nullable, Arg, Exact, Out, In, Star, none, more, Variance, Invariant, Covariant, Contravariant, HeadParam, Heads, up, down, class_given}
+use Rattle.std.specs.Prelude.{◌≡◌, ℕ, zero, suc, true, false, nat_eq, List, [], ◌∷◌, Some, None, cond, ◌||◌}
+use Rattle.kc_types.specs.Types.{Ty, Class, Param, Nothing, Nullable, Arg, Exact, Out, In, Star, none, more, Variance, Invariant, Covariant, Contravariant, HeadParam, Heads, up, down, star_bound, class_given}
 use Rattle.kc_types.specs.Supertypes.{instance}
 use Rattle.kc_types.specs.Subtype.{below}
 use Rattle.kc_types.specs.View.{view}
@@ -25,6 +25,12 @@ var x = Exact (Param x)
 
 abbrev pub any_bound : ℕ → Variance → HeadParam
 any_bound x v = record { var = x; variance = v; bound = Nullable (plain 0) }
+
+abbrev pub bounded : ℕ → Ty → HeadParam
+bounded x t = record { var = x; variance = Invariant; bound = t }
+
+abbrev pub num_bound : ℕ → HeadParam
+num_bound x = bounded x (plain 1)
 
 -- Any 0, Num 1 : Any, L<out S> 2, D<T : Num> : L<T> 3, Sink<in X> 4, Function1<in P, out R> 5,
 -- Iterable<out A> 6, Collection<out B> : Iterable<B> 7, MutableList<E> : Collection<E> 8, ArrayList<F> : MutableList<F> 9
@@ -63,9 +69,6 @@ comparables = record {
 
 -- Any 0, Num 1 : Any, L<X, Y> 2, D<X : Num, Y> : L<X, Y> 3, C<T : Num> : D<T, T> 4, E<T : Num> : L<T?, T> 5, Sink<in X> 6, Box<T> 7,
 -- K<out T> : Sink<Box<out Sink<T>>> 8
-abbrev pub num_bound : ℕ → HeadParam
-num_bound x = record { var = x; variance = Invariant; bound = plain 1 }
-
 abbrev pub in_steps : Heads
 in_steps = record {
   classes = 9;
@@ -74,6 +77,83 @@ in_steps = record {
   supers = nth [] ([] ∷ (plain 0 ∷ []) ∷ [] ∷ (two 2 (var 30) (var 31) ∷ []) ∷ (two 3 (var 40) (var 40) ∷ []) ∷ (two 2 (Exact (Nullable (Param 50))) (var 50) ∷ []) ∷ [] ∷ [] ∷
       (one 6 (Exact (one 7 (Out (one 6 (var 80))))) ∷ []) ∷ []);
   vars = 9;
+  bound_of = λ x. Nullable (plain 0);
+  any = 0;
+  is_function = λ c. false;
+}
+
+-- Any 0, Num 1 : Any, Unit 2, MutableList<E> 3, List<out E> 4, Function1<in P, out R> 5, Function0<out R> 6,
+-- Box<T : MutableList<MutableList<T>>> 7, X : MutableList<MutableList<X>> 8, Chain<A : B?, B : D?, D : Num?> 9, Lists<A : B?, B : List<B>?> 10,
+-- Call<T : (T) -> Unit> 11, Make<T : () -> List<T>> 12, Outs<T : MutableList<out T>> 13, Nulls<T : MutableList<T?>> 14, Itself<T : () -> T> 15,
+-- Lazy<U : Num, F : () -> U> 16, Takes<U, F : (U?) -> Unit> 17, Finds<U : Num, F : () -> U?> 18, Makes<U : MutableList<U>, F : (Num) -> U> 19,
+-- Again<U, F : () -> F> 20, Sink<in X> 21, Feeds<U : Num, F : (Sink<U?>) -> Unit> 22
+abbrev pub box_bound : HeadParam
+box_bound = bounded 70 (one 3 (Exact (one 3 (var 70))))
+
+abbrev pub chain_bound : ℕ → Ty → HeadParam
+chain_bound x t = bounded x (Nullable t)
+
+abbrev pub call_bound : HeadParam
+call_bound = bounded 110 (two 5 (var 110) (Exact (plain 2)))
+
+abbrev pub make_bound : HeadParam
+make_bound = bounded 120 (one 6 (Exact (one 4 (var 120))))
+
+abbrev pub outs_bound : HeadParam
+outs_bound = bounded 130 (one 3 (Out (Param 130)))
+
+abbrev pub nulls_bound : HeadParam
+nulls_bound = bounded 140 (one 3 (Exact (Nullable (Param 140))))
+
+abbrev pub itself_bound : HeadParam
+itself_bound = bounded 150 (one 6 (var 150))
+
+abbrev pub lazy_bound : HeadParam
+lazy_bound = bounded 161 (one 6 (var 160))
+
+abbrev pub takes_bound : HeadParam
+takes_bound = bounded 171 (two 5 (Exact (Nullable (Param 170))) (Exact (plain 2)))
+
+abbrev pub finds_bound : HeadParam
+finds_bound = bounded 181 (one 6 (Exact (Nullable (Param 180))))
+
+abbrev pub makes_bound : HeadParam
+makes_bound = bounded 191 (two 5 (Exact (plain 1)) (var 190))
+
+abbrev pub again_bound : HeadParam
+again_bound = bounded 201 (one 6 (var 201))
+
+abbrev pub feeds_bound : HeadParam
+feeds_bound = bounded 221 (two 5 (Exact (one 21 (Exact (Nullable (Param 220))))) (Exact (plain 2)))
+
+abbrev pub with_bounds : Heads
+with_bounds = record {
+  classes = 23;
+  params = nth [] ([] ∷ [] ∷ [] ∷ (any_bound 30 Invariant ∷ []) ∷ (any_bound 40 Covariant ∷ []) ∷ (any_bound 50 Contravariant ∷ any_bound 51 Covariant ∷ []) ∷ (any_bound 60 Covariant ∷ []) ∷
+      (box_bound ∷ []) ∷ [] ∷ (chain_bound 90 (Param 91) ∷ chain_bound 91 (Param 92) ∷ chain_bound 92 (plain 1) ∷ []) ∷ (chain_bound 100 (Param 101) ∷ chain_bound 101 (one 4 (var 101)) ∷ []) ∷
+      (call_bound ∷ []) ∷ (make_bound ∷ []) ∷ (outs_bound ∷ []) ∷ (nulls_bound ∷ []) ∷ (itself_bound ∷ []) ∷ (num_bound 160 ∷ lazy_bound ∷ []) ∷ (any_bound 170 Invariant ∷ takes_bound ∷ []) ∷
+      (num_bound 180 ∷ finds_bound ∷ []) ∷ (bounded 190 (one 3 (var 190)) ∷ makes_bound ∷ []) ∷ (any_bound 200 Invariant ∷ again_bound ∷ []) ∷
+      (any_bound 210 Contravariant ∷ []) ∷ (num_bound 220 ∷ feeds_bound ∷ []) ∷ []);
+  supers = nth [] ([] ∷ (plain 0 ∷ []) ∷ [] ∷ [] ∷ [] ∷ [] ∷ [] ∷ [] ∷ (one 3 (Exact (one 3 (Exact (plain 8)))) ∷ []) ∷ []);
+  vars = 0;
+  bound_of = λ x. Nullable (plain 0);
+  any = 0;
+  is_function = λ c. nat_eq c 5 || nat_eq c 6;
+}
+
+-- Any 0, Comparable<in T> 1, Enum<E : Enum<E>> : Comparable<E> 2, Sorted<T : Comparable<T>> : Any 3, Color : Enum<Color> 4
+abbrev pub ordered_params : List (List HeadParam)
+ordered_params = [] ∷ (any_bound 10 Contravariant ∷ []) ∷ (bounded 20 (one 2 (var 20)) ∷ []) ∷ (bounded 30 (one 1 (var 30)) ∷ []) ∷ [] ∷ []
+
+abbrev pub ordered_supers : List (List Ty)
+ordered_supers = [] ∷ [] ∷ (one 1 (var 20) ∷ []) ∷ (plain 0 ∷ []) ∷ (one 2 (Exact (plain 4)) ∷ []) ∷ []
+
+abbrev pub ordered : Heads
+ordered = record {
+  classes = 5;
+  params = nth [] ordered_params;
+  supers = nth [] ordered_supers;
+  vars = 0;
   bound_of = λ x. Nullable (plain 0);
   any = 0;
   is_function = λ c. false;
@@ -109,6 +189,31 @@ pub record ExamplesHold : Type 0 where
   pub null_is_any_or_null : below 8 heads (Nullable (plain 1)) (Nullable (plain 0)) ≡ true
   pub two_marks : below 8 heads (Nullable (Nullable (plain 1))) (Nullable (plain 1)) ≡ true
   pub one_mark : below 8 heads (Nullable (plain 1)) (Nullable (Nullable (plain 1))) ≡ true
+  -- a bound as a star reads it: MutableList<MutableList<T>> becomes MutableList<out MutableList<*>>. X keeps the bound, and is no
+  -- MutableList<MutableList<*>>
+  pub deeper_in_bound : star_bound with_bounds 7 box_bound ≡ one 3 (Out (one 3 Star))
+  pub keeps_written : below 8 with_bounds (plain 8) (one 3 (Exact (one 3 (Exact (plain 8))))) ≡ true
+  pub keeps_star : below 8 with_bounds (plain 8) (one 3 (Out (one 3 Star))) ≡ true
+  pub below_no_list : below 8 with_bounds (plain 8) (one 3 (Exact (one 3 Star))) ≡ false
+  -- a parameter that is an argument becomes a star, also with `out` or with `?`
+  pub out_in_bound : star_bound with_bounds 13 outs_bound ≡ one 3 Star
+  pub null_in_bound : star_bound with_bounds 14 nulls_bound ≡ one 3 Star
+  -- a bound that is a parameter leads on to that parameter's bound, with its `?`
+  pub bound_leads : star_bound with_bounds 9 (chain_bound 90 (Param 91)) ≡ Nullable (plain 1)
+  pub bound_leads_to_list : star_bound with_bounds 10 (chain_bound 100 (Param 101)) ≡ Nullable (one 4 Star)
+  -- the bound (T) -> Unit stays a function type, and so do () -> List<T> and () -> T
+  pub function_bound : star_bound with_bounds 11 call_bound ≡ two 5 (Exact Nothing) (Exact (plain 2))
+  pub function_of_list : star_bound with_bounds 12 make_bound ≡ one 6 (Exact (one 4 Star))
+  pub function_of_itself : star_bound with_bounds 15 itself_bound ≡ one 6 (Exact (Nullable (plain 0)))
+  -- the result of a function type that is a bound is another parameter's own bound, with its `?`; and a parameter with `?` takes null
+  pub function_of_bound : star_bound with_bounds 16 lazy_bound ≡ one 6 (Exact (plain 1))
+  pub function_takes_null : star_bound with_bounds 17 takes_bound ≡ two 5 (Exact (Nullable Nothing)) (Exact (plain 2))
+  pub function_gives_null : star_bound with_bounds 18 finds_bound ≡ one 6 (Exact (Nullable (plain 1)))
+  pub function_of_lists : star_bound with_bounds 19 makes_bound ≡ two 5 (Exact (plain 1)) (Exact (one 3 Star))
+  -- (Sink<Num?>) -> Unit keeps the bound (Sink<U?>) -> Unit, and is no (Sink<Num>) -> Unit
+  pub function_of_sinks : star_bound with_bounds 22 feeds_bound ≡ two 5 (Exact (one 21 (Exact (Nullable (plain 1))))) (Exact (plain 2))
+  -- a bound that leads back to itself is followed as often as the class has parameters
+  pub function_again : star_bound with_bounds 20 again_bound ≡ one 6 (Exact (one 6 (Exact (Nullable (plain 0)))))
   -- a projection against its parameter's variance is a star, also where a type is taken upwards: with `in Nothing?` in its place
   -- null would reach a Sink<Num>
   pub against : up heads (class_given heads 3 (more Star none)) (one 4 (Out (Nullable (Param 30)))) ≡ one 4 Star

@@ -1,5 +1,6 @@
 -- Types that are formed: each class has as many arguments as parameters, a class of functions has types as arguments and no
--- projections, and no `?` stands on another.
+-- projections, and no `?` stands on another. Whether there is a class of a number is not asked here: what counts are the parameters that the
+-- heads give it.
 use Rattle.std.specs.Prelude.{◌≡◌, true, false, List, [], ◌∷◌}
 use Rattle.kc_types.specs.Types.{Ty, Class, Param, Nothing, Nullable, Arg, Exact, Out, In, Star, Args, none, more, HeadParam, Heads, is_own}
 

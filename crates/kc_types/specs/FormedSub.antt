@@ -1,8 +1,8 @@
 -- Subtyping of formed types by way of formed types alone, and the heads over which the recursion misses none of it.
-use Rattle.std.specs.Prelude.{◌≡◌, ℕ, true, List, [], ◌∷◌, length}
-use Rattle.kc_types.specs.Types.{Ty, Class, Param, Nothing, Nullable, Arg, Exact, Out, In, Star, Args, none, more, Covariant, HeadParam, Heads, is_own, up, up_args, star_bound, class_given}
+use Rattle.std.specs.Prelude.{◌≡◌, ℕ, true, List, [], ◌∷◌}
+use Rattle.kc_types.specs.Types.{Ty, Class, Param, Nothing, Nullable, Arg, Exact, Out, In, Star, Args, none, more, Covariant, HeadParam, Heads, is_own, up, up_args, star_bound, class_given, anything}
 use Rattle.kc_types.specs.Supertypes.{IsIn, Supertype, Acyclic}
-use Rattle.kc_types.specs.Subtype.{anything, read}
+use Rattle.kc_types.specs.Subtype.{read}
 use Rattle.kc_types.specs.Formed.{Different, Exact_args, Formed}
 use Rattle.kc_types.specs.Positions.{Stands, variance_in, FunctionsVary}
 
@@ -17,13 +17,13 @@ mutual
     nulls : {a b : Ty} → FormedSub h a (Nullable b) → FormedSub h (Nullable a) (Nullable b)
     object : {c : ℕ} {xs : Args} → FormedSub h (Class c xs) (Class h.any none)
     super : {c : ℕ} {xs : Args} {t : Ty} → Supertype h c t → FormedSub h (Class c xs) (up h (class_given h c xs) t)
-    arguments : {c : ℕ} {xs ys : Args} → FormedAll h (h.params c) (h.params c) xs ys → FormedSub h (Class c xs) (Class c ys)
+    arguments : {c : ℕ} {xs ys : Args} → FormedAll h (star_bound h c) (h.params c) xs ys → FormedSub h (Class c xs) (Class c ys)
     bound : {x : ℕ} → FormedSub h (Param x) (h.bound_of x)
 
-  pub data FormedAll (h : Heads) : List HeadParam → List HeadParam → Args → Args → Type 0 where
-    end : {all : List HeadParam} → FormedAll h all [] none none
-    next : {all : List HeadParam} {p : HeadParam} {ps : List HeadParam} {a b : Arg} {xs ys : Args} →
-        FormedIn h (star_bound (length all) all p.bound) (read p.variance a) (read p.variance b) → FormedAll h all ps xs ys → FormedAll h all (p ∷ ps) (more a xs) (more b ys)
+  pub data FormedAll (h : Heads) : (HeadParam → Ty) → List HeadParam → Args → Args → Type 0 where
+    end : {tops : HeadParam → Ty} → FormedAll h tops [] none none
+    next : {tops : HeadParam → Ty} {p : HeadParam} {ps : List HeadParam} {a b : Arg} {xs ys : Args} →
+        FormedIn h (tops p) (read p.variance a) (read p.variance b) → FormedAll h tops ps xs ys → FormedAll h tops (p ∷ ps) (more a xs) (more b ys)
 
   pub data FormedIn (h : Heads) : Ty → Arg → Arg → Type 0 where
     star : {top : Ty} {a : Arg} → FormedIn h top a Star
@@ -71,23 +71,23 @@ pub record ValidHeads (h : Heads) : Type 0 where
   pub types : (c : ℕ) (s : Ty) → IsIn Ty s (h.supers c) → Of_types s
   pub over : (c : ℕ) (s : Ty) → IsIn Ty s (h.supers c) → Over (h.params c) s
   pub stand : (c : ℕ) (s : Ty) → IsIn Ty s (h.supers c) → Stands h (variance_in (h.params c)) Covariant s
-  pub tops : (c : ℕ) (p : HeadParam) → IsIn HeadParam p (h.params c) → Formed h (star_bound (length (h.params c)) (h.params c) p.bound)
+  pub class_bounds : (c : ℕ) (p : HeadParam) → IsIn HeadParam p (h.params c) → Formed h p.bound
   pub bounds : (x : ℕ) → Formed h (h.bound_of x)
   pub plain : h.params h.any ≡ []
   pub alone : h.supers h.any ≡ []
 
--- the arguments are formed types below their parameters' bounds as a star reads these
-abbrev pub Kept : Heads → List HeadParam → List HeadParam → Args → Type 0
-Kept h all [] xs = Unit {0}
-Kept h all (p ∷ ps) none = Unit {0}
-Kept h all (p ∷ ps) (more (Exact t) xs) = (Formed h t × Formed h (star_bound (length all) all p.bound) × FormedSub h t (star_bound (length all) all p.bound)) × Kept h all ps xs
-Kept h all (p ∷ ps) (more (Out t) xs) = ⊥
-Kept h all (p ∷ ps) (more (In t) xs) = ⊥
-Kept h all (p ∷ ps) (more Star xs) = ⊥
+-- the arguments, as far as there are parameters, are formed types below their parameters' bounds as a star reads these
+abbrev pub Kept : Heads → (HeadParam → Ty) → List HeadParam → Args → Type 0
+Kept h tops [] xs = Unit {0}
+Kept h tops (p ∷ ps) none = Unit {0}
+Kept h tops (p ∷ ps) (more (Exact t) xs) = (Formed h t × Formed h (tops p) × FormedSub h t (tops p)) × Kept h tops ps xs
+Kept h tops (p ∷ ps) (more (Out t) xs) = ⊥
+Kept h tops (p ∷ ps) (more (In t) xs) = ⊥
+Kept h tops (p ∷ ps) (more Star xs) = ⊥
 
 -- so are those of its instance at each superclass
 abbrev pub Keeps : Heads → ℕ → Args → Type 0
-Keeps h e xs = (d : ℕ) (zs : Args) → Supertype h e (Class d zs) → Kept h (h.params d) (h.params d) (up_args h (class_given h e xs) (h.is_function d) (h.params d) zs)
+Keeps h e xs = (d : ℕ) (zs : Args) → Supertype h e (Class d zs) → Kept h (star_bound h d) (h.params d) (up_args h (class_given h e xs) (h.is_function d) (h.params d) zs)
 
 -- each class has one instance of each of its superclasses
 abbrev pub OneInstance : Heads → Type 0

@@ -1,12 +1,12 @@
 -- What is proved of subtyping.
 use Rattle.std.specs.Prelude.{◌≡◌, ℕ, ◌≤◌, true, List, Some}
-use Rattle.kc_types.specs.Types.{Ty, Class, Args, Covariant, Contravariant, HeadParam, Heads, up, down, class_given}
+use Rattle.kc_types.specs.Types.{Ty, Class, Args, Covariant, Contravariant, HeadParam, Heads, up, down, class_given, star_bound}
 use Rattle.kc_types.specs.Supertypes.{IsIn, Supertype, put as put_types, put_in, above, instance, Acyclic}
 use Rattle.kc_types.specs.Subtype.{Sub, All, choices, below, perhaps}
 use Rattle.kc_types.specs.FormedSub.{FormedSub, ValidHeads, Keeps, OneInstance}
 use Rattle.kc_types.specs.View.{view}
 use Rattle.kc_types.specs.Formed.{Different, Exact_args, Formed}
-use Rattle.kc_types.specs.Positions.{Stands, variance_in, FunctionsVary, Within}
+use Rattle.kc_types.specs.Positions.{Stands, variance_in, FunctionsVary, Bounded, Within}
 use Rattle.kc_types.specs.Core as core
 use Rattle.kc_types.specs.Examples.{heads}
 use Rattle.kc_types.specs.CoreExample.{example}
@@ -40,17 +40,22 @@ BelowHasInstances = (h : Heads) → ((c : ℕ) → Different (h.params c)) → (
 
 -- arguments that give way to bounds twice might do so at once
 abbrev pub ChoicesCompose : Type 0
-ChoicesCompose = (all ps : List HeadParam) (xs ys zs : Args) → IsIn Args ys (choices all ps xs) → IsIn Args zs (choices all ps ys) → IsIn Args zs (choices all ps xs)
+ChoicesCompose = (tops : HeadParam → Ty) (ps : List HeadParam) (xs ys zs : Args) → IsIn Args ys (choices tops ps xs) → IsIn Args zs (choices tops ps ys) → IsIn Args zs (choices tops ps xs)
+
+-- arguments that keep their parameters' bounds as these are written keep them as a star reads them
+abbrev pub StarsAreAbove : Type 0
+StarsAreAbove = (h : Heads) → FunctionsVary h → (c : ℕ) → ((p : HeadParam) → IsIn HeadParam p (h.params c) → Formed h p.bound) → (xs : Args) → Bounded h (put_in (h.params c) xs) (h.params c) xs →
+    Within h (star_bound h c) (h.params c) xs
 
 -- a type of a class's member, in a position that gives values, taken upwards is above what it is with any types as arguments that are
 -- contained and keep their bounds
 abbrev pub UpwardsIsAbove : Type 0
-UpwardsIsAbove = (h : Heads) → FunctionsVary h → (c : ℕ) (xs ys : Args) → Within h (h.params c) (h.params c) xs → All h (h.params c) (h.params c) xs ys → (t : Ty) → Stands h (variance_in (h.params c)) Covariant t →
+UpwardsIsAbove = (h : Heads) → FunctionsVary h → (c : ℕ) (xs ys : Args) → Within h (star_bound h c) (h.params c) xs → All h (star_bound h c) (h.params c) xs ys → (t : Ty) → Stands h (variance_in (h.params c)) Covariant t →
     Sub h (put_types (put_in (h.params c) xs) t) (up h (class_given h c ys) t)
 
 -- in a position that takes values, taken downwards it is below
 abbrev pub DownwardsIsBelow : Type 0
-DownwardsIsBelow = (h : Heads) → FunctionsVary h → (c : ℕ) (xs ys : Args) → Within h (h.params c) (h.params c) xs → All h (h.params c) (h.params c) xs ys → (t : Ty) → Stands h (variance_in (h.params c)) Contravariant t →
+DownwardsIsBelow = (h : Heads) → FunctionsVary h → (c : ℕ) (xs ys : Args) → Within h (star_bound h c) (h.params c) xs → All h (star_bound h c) (h.params c) xs ys → (t : Ty) → Stands h (variance_in (h.params c)) Contravariant t →
     Sub h (down h (class_given h c ys) t) (put_types (put_in (h.params c) xs) t)
 
 -- what is below by the rules, by way of formed types, the recursion refuses at no height: where it refuses, it isn't below

@@ -14,8 +14,10 @@ pub mod CoreExample
 pub mod Formed
 pub mod FormedSub
 pub mod Decided
+pub mod Ending
 pub mod Ranks
 pub mod Whole
 pub mod Positions
 pub mod CommonClasses
 pub mod Endless
+pub mod BoxTrees

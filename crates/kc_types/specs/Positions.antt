@@ -1,7 +1,8 @@
 -- The positions of a type in which its parameters may stand (Kotlin Language Specification 1.9, "Declaration-site variance"), and
 -- lists of arguments within their bounds.
-use Rattle.std.specs.Prelude.{◌≡◌, ℕ, true, nat_eq, List, [], ◌∷◌, length, cond}
-use Rattle.kc_types.specs.Types.{Ty, Class, Param, Nothing, Nullable, Arg, Exact, Out, In, Star, Args, none, more, Variance, Invariant, Covariant, Contravariant, HeadParam, Heads, star_bound}
+use Rattle.std.specs.Prelude.{◌≡◌, ℕ, true, nat_eq, List, [], ◌∷◌, cond}
+use Rattle.kc_types.specs.Types.{Ty, Class, Param, Nothing, Nullable, Arg, Exact, Out, In, Star, Args, none, more, Variance, Invariant, Covariant, Contravariant, HeadParam, Heads}
+use Rattle.kc_types.specs.Supertypes.{put}
 use Rattle.kc_types.specs.Subtype.{Sub}
 
 -- a position in an argument of a parameter of the second variance, where the type stands in a position of the first
@@ -22,7 +23,8 @@ May Contravariant Contravariant = Unit {0}
 May Contravariant Covariant = ⊥
 May Contravariant Invariant = ⊥
 
--- each parameter stands in a type only where its variance lets it, and each class has as many arguments as parameters
+-- each parameter stands in a type only where its variance lets it: behind `in` the position turns round, behind `out` it stays, and an argument
+-- without either is in the position of its parameter; each class has as many arguments as parameters
 module _ (h : Heads) (variance : ℕ → Variance) where
   abbrev mutual
     pub Stands : Variance → Ty → Type 0
@@ -56,11 +58,21 @@ Varies (p ∷ ps) = ¬ (p.variance ≡ Invariant) × Varies ps
 abbrev pub FunctionsVary : Heads → Type 0
 FunctionsVary h = (c : ℕ) → h.is_function c ≡ true → Varies (h.params c)
 
--- the arguments are types below their parameters' bounds as a star reads these
-abbrev pub Within : Heads → List HeadParam → List HeadParam → Args → Type 0
-Within h all [] xs = Unit {0}
-Within h all (p ∷ ps) none = Unit {0}
-Within h all (p ∷ ps) (more (Exact t) xs) = Sub h t (star_bound (length all) all p.bound) × Within h all ps xs
-Within h all (p ∷ ps) (more (Out t) xs) = ⊥
-Within h all (p ∷ ps) (more (In t) xs) = ⊥
-Within h all (p ∷ ps) (more Star xs) = ⊥
+-- the arguments are types, as many as parameters, below their parameters' bounds with these types put in
+abbrev pub Bounded : Heads → (ℕ → Ty) → List HeadParam → Args → Type 0
+Bounded h s [] none = Unit {0}
+Bounded h s (p ∷ ps) (more (Exact t) xs) = Sub h t (put s p.bound) × Bounded h s ps xs
+Bounded h s (p ∷ ps) (more (Out t) xs) = ⊥
+Bounded h s (p ∷ ps) (more (In t) xs) = ⊥
+Bounded h s (p ∷ ps) (more Star xs) = ⊥
+Bounded h s (p ∷ ps) none = ⊥
+Bounded h s [] (more a xs) = ⊥
+
+-- the arguments, as far as there are parameters, are types below their parameters' bounds as a star reads these
+abbrev pub Within : Heads → (HeadParam → Ty) → List HeadParam → Args → Type 0
+Within h tops [] xs = Unit {0}
+Within h tops (p ∷ ps) none = Unit {0}
+Within h tops (p ∷ ps) (more (Exact t) xs) = Sub h t (tops p) × Within h tops ps xs
+Within h tops (p ∷ ps) (more (Out t) xs) = ⊥
+Within h tops (p ∷ ps) (more (In t) xs) = ⊥
+Within h tops (p ∷ ps) (more Star xs) = ⊥

@@ -1,12 +1,8 @@
 -- Subtyping (Kotlin Language Specification 1.9, "Subtyping"): the least relation with its ten rules, and a recursion that has no
 -- rule of transitivity.
-use Rattle.std.specs.Prelude.{ℕ, zero, suc, Bool, true, false, nat_eq, List, [], ◌∷◌, ◌&&◌, ◌||◌, length, map, ◌++◌}
-use Rattle.kc_types.specs.Types.{Ty, Class, Param, Nothing, Nullable, Arg, Exact, Out, In, Star, Args, none, more, Variance, Invariant, Covariant, Contravariant, HeadParam, Heads, Given, up, star_bound, class_given}
+use Rattle.std.specs.Prelude.{ℕ, zero, suc, Bool, true, false, nat_eq, List, [], ◌∷◌, ◌&&◌, ◌||◌, map, ◌++◌}
+use Rattle.kc_types.specs.Types.{Ty, Class, Param, Nothing, Nullable, Arg, Exact, Out, In, Star, Args, none, more, Variance, Invariant, Covariant, Contravariant, HeadParam, Heads, Given, anything, up, star_bound, class_given}
 use Rattle.kc_types.specs.Supertypes.{Supertype, above, is_class}
-
--- `Any?`
-abbrev pub anything : Heads → Ty
-anything h = Nullable (Class h.any none)
 
 -- an argument as its parameter's variance has it: a projection against it is a star
 abbrev pub read : Variance → Arg → Arg
@@ -31,14 +27,14 @@ mutual
     nulls : {a b : Ty} → Sub h a (Nullable b) → Sub h (Nullable a) (Nullable b)
     object : {c : ℕ} {xs : Args} → Sub h (Class c xs) (Class h.any none)
     super : {c : ℕ} {xs : Args} {t : Ty} → Supertype h c t → Sub h (Class c xs) (up h (class_given h c xs) t)
-    arguments : {c : ℕ} {xs ys : Args} → All h (h.params c) (h.params c) xs ys → Sub h (Class c xs) (Class c ys)
+    arguments : {c : ℕ} {xs ys : Args} → All h (star_bound h c) (h.params c) xs ys → Sub h (Class c xs) (Class c ys)
     bound : {x : ℕ} → Sub h (Param x) (h.bound_of x)
 
   -- each argument of the first list is contained in that of the second
-  pub data All (h : Heads) : List HeadParam → List HeadParam → Args → Args → Type 0 where
-    end : {all : List HeadParam} → All h all [] none none
-    next : {all : List HeadParam} {p : HeadParam} {ps : List HeadParam} {a b : Arg} {xs ys : Args} →
-        In_arg h (star_bound (length all) all p.bound) (read p.variance a) (read p.variance b) → All h all ps xs ys → All h all (p ∷ ps) (more a xs) (more b ys)
+  pub data All (h : Heads) : (HeadParam → Ty) → List HeadParam → Args → Args → Type 0 where
+    end : {tops : HeadParam → Ty} → All h tops [] none none
+    next : {tops : HeadParam → Ty} {p : HeadParam} {ps : List HeadParam} {a b : Arg} {xs ys : Args} →
+        In_arg h (tops p) (read p.variance a) (read p.variance b) → All h tops ps xs ys → All h tops (p ∷ ps) (more a xs) (more b ys)
 
   -- the first argument is contained in the second, where this is the bound as a star reads it
   pub data In_arg (h : Heads) : Ty → Arg → Arg → Type 0 where
@@ -67,14 +63,14 @@ contains_with go top (Out a) (Exact b) = false
 contains_with go top (In a) (Exact b) = false
 contains_with go top Star (Exact b) = false
 
-abbrev pub all_with : (Ty → Ty → Bool) → List HeadParam → List HeadParam → Args → Args → Bool
-all_with go all [] none none = true
-all_with go all (p ∷ ps) (more a xs) (more b ys) =
-    contains_with go (star_bound (length all) all p.bound) (read p.variance a) (read p.variance b) && all_with go all ps xs ys
-all_with go all [] (more a xs) ys = false
-all_with go all [] none (more b ys) = false
-all_with go all (p ∷ ps) none ys = false
-all_with go all (p ∷ ps) (more a xs) none = false
+abbrev pub all_with : (Ty → Ty → Bool) → (HeadParam → Ty) → List HeadParam → Args → Args → Bool
+all_with go tops [] none none = true
+all_with go tops (p ∷ ps) (more a xs) (more b ys) =
+    contains_with go (tops p) (read p.variance a) (read p.variance b) && all_with go tops ps xs ys
+all_with go tops [] (more a xs) ys = false
+all_with go tops [] none (more b ys) = false
+all_with go tops (p ∷ ps) none ys = false
+all_with go tops (p ∷ ps) (more a xs) none = false
 
 -- before a supertype is taken, an argument may give way to one that contains it: any to `out` of its parameter's bound, which a star
 -- stands for, and a type to `in` of itself, which leaves that bound in place of the type where the type is beyond it. The supertypes
@@ -91,19 +87,19 @@ abbrev pub each_first : List Arg → List Args → List Args
 each_first [] xss = []
 each_first (a ∷ rest) xss = map (λ xs. more a xs) xss ++ each_first rest xss
 
-abbrev pub choices : List HeadParam → List HeadParam → Args → List Args
-choices all [] none = none ∷ []
-choices all [] (more a xs) = []
-choices all (p ∷ ps) none = []
-choices all (p ∷ ps) (more a xs) = each_first (options p.variance (star_bound (length all) all p.bound) a) (choices all ps xs)
+abbrev pub choices : (HeadParam → Ty) → List HeadParam → Args → List Args
+choices tops [] none = none ∷ []
+choices tops [] (more a xs) = []
+choices tops (p ∷ ps) none = []
+choices tops (p ∷ ps) (more a xs) = each_first (options p.variance (tops p) a) (choices tops ps xs)
 
 -- a function type's arguments stay types
-abbrev pub choices_by : Bool → List HeadParam → Args → List Args
-choices_by true ps xs = xs ∷ []
-choices_by false ps xs = choices ps ps xs
+abbrev pub choices_by : Bool → (HeadParam → Ty) → List HeadParam → Args → List Args
+choices_by true tops ps xs = xs ∷ []
+choices_by false tops ps xs = choices tops ps xs
 
 abbrev pub class_choices : Heads → ℕ → Args → List Args
-class_choices h c xs = choices_by (h.is_function c) (h.params c) xs
+class_choices h c xs = choices_by (h.is_function c) (star_bound h c) (h.params c) xs
 
 -- on from one of these supertypes, if it is of another class
 abbrev pub above_with : (Ty → Ty → Bool) → Heads → List Given → ℕ → Ty → List Ty → Bool
@@ -112,7 +108,7 @@ above_with go h gs c b (t ∷ ts) = elim (is_class c t) [ true ↦ false | false
 
 -- by its own arguments where the class is the same, or on from a supertype: each class on the way has bounds of its own
 abbrev pub fits_with : (Ty → Ty → Bool) → Heads → ℕ → Args → ℕ → Args → Bool
-fits_with go h c xs d ys = elim (nat_eq c d) [ true ↦ all_with go (h.params c) (h.params c) xs ys | false ↦ false ] || above_with go h (class_given h c xs) c (Class d ys) (above h c)
+fits_with go h c xs d ys = elim (nat_eq c d) [ true ↦ all_with go (star_bound h c) (h.params c) xs ys | false ↦ false ] || above_with go h (class_given h c xs) c (Class d ys) (above h c)
 
 abbrev pub any_fits : (Ty → Ty → Bool) → Heads → ℕ → List Args → ℕ → Args → Bool
 any_fits go h c [] d ys = false

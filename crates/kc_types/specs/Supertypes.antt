@@ -88,7 +88,8 @@ RanksBelow rank n (Param x) = ⊥
 RanksBelow rank n Nothing = ⊥
 RanksBelow rank n (Nullable t) = ⊥
 
--- the classes have ranks, as many as there are classes at most, so that a class's direct supertypes are of classes of lower rank
+-- each class has a rank, which is at most the number of classes, and its direct supertypes are class types of classes of lower rank; numbers
+-- that no class has are taken with the classes here
 pub record Acyclic (h : Heads) : Type 0 where
   pub rank : ℕ → ℕ
   pub within : (c : ℕ) → rank c ≤ h.classes

@@ -59,7 +59,7 @@ abbrev pub supers_of : Option declared_head.Head → List Ty
 supers_of (Some h) = map type_of h.supers
 supers_of None = []
 
--- the bound of a type parameter, or the parameter itself where none is known
+-- the bound of a type parameter among these, or else the other type
 abbrev pub bound_among : ℕ → List declared_param.HeadParam → Ty → Ty
 bound_among x [] else_type = else_type
 bound_among x (p ∷ ps) else_type = cond (nat_eq p.var.0 x) (type_of p.bound) (bound_among x ps else_type)
@@ -75,7 +75,8 @@ heads_of h = record {
   params = λ c. params_of (slice_get h.classes c);
   supers = λ c. supers_of (slice_get h.classes c);
   vars = length h.others + sum (map (λ head. length head.params) h.classes);
-  bound_of = λ x. bound_in_heads x h.classes (bound_among x h.others (Param x));
+  -- `Any?` where no bound is known
+  bound_of = λ x. bound_in_heads x h.classes (bound_among x h.others (Nullable (Class 0 none)));
   any = 0;
   is_function = is_function_class;
 }

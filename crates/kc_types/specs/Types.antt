@@ -1,5 +1,5 @@
 -- Types as terms, the heads of classes, and types taken upwards and downwards (Kotlin Language Specification 1.9, "Type capturing",
--- where upwards gives the least type above each type that a projection may stand for, and downwards the greatest below each).
+-- where upwards gives a type above each type that a projection may stand for, and downwards one below each).
 -- A function type is here the class of functions of its arity, with the types of its parameters and of its result as arguments.
 use Rattle.std.specs.Prelude.{ℕ, zero, suc, Bool, true, false, nat_eq, List, [], ◌∷◌, Option, Some, None, cond, ◌||◌, length}
 
@@ -38,6 +38,10 @@ pub record Heads : Type 0 where
   pub bound_of : ℕ → Ty
   pub any : ℕ
   pub is_function : ℕ → Bool
+
+-- `Any?`
+abbrev pub anything : Heads → Ty
+anything h = Nullable (Class h.any none)
 
 -- one `?` where two would stand
 abbrev pub nullable : Ty → Ty
@@ -181,53 +185,93 @@ module _ (h : Heads) (gs : List Given) where
     down_args ps none = none
     down_args ps (more a xs) = more (unless_against (variance_at ps) a (down_arg (variance_at ps) (each_up a) (each_down a))) (down_args (rest_of ps) xs)
 
--- a bound as a star reads it: an argument in it that is a parameter of the class becomes a star
+-- ---- a parameter's bound as a star reads it
+
 abbrev pub is_own : List HeadParam → ℕ → Bool
 is_own [] x = false
 is_own (p ∷ ps) x = nat_eq p.var x || is_own ps x
 
-abbrev pub bare : List HeadParam → Ty → Bool
-bare ps (Param x) = is_own ps x
-bare ps (Nullable (Param x)) = is_own ps x
-bare ps (Nullable _) = false
-bare ps (Class c xs) = false
-bare ps Nothing = false
+abbrev pub if_own : List HeadParam → ℕ → Option ℕ
+if_own ps x = cond (is_own ps x) (Some x) None
 
-abbrev mutual
-  pub starred : List HeadParam → Ty → Ty
-  starred ps (Class c xs) = Class c (starred_args ps xs)
-  starred ps (Param x) = Param x
-  starred ps Nothing = Nothing
-  starred ps (Nullable t) = Nullable (starred ps t)
+-- the parameter of the class that a type is, with `?` or not
+abbrev pub bare : List HeadParam → Ty → Option ℕ
+bare ps (Param x) = if_own ps x
+bare ps (Nullable (Param x)) = if_own ps x
+bare ps (Nullable (Class c xs)) = None
+bare ps (Nullable Nothing) = None
+bare ps (Nullable (Nullable t)) = None
+bare ps (Class c xs) = None
+bare ps Nothing = None
 
-  pub starred_arg : List HeadParam → Arg → Arg
-  starred_arg ps (Exact t) = cond (bare ps t) Star (Exact (starred ps t))
-  starred_arg ps (Out t) = cond (bare ps t) Star (Out (starred ps t))
-  starred_arg ps (In t) = In (starred ps t)
-  starred_arg ps Star = Star
+abbrev pub or_alone : Option ℕ → Arg → Arg
+or_alone None a = a
+or_alone (Some x) a = Exact (Param x)
 
-  pub starred_args : List HeadParam → Args → Args
-  starred_args ps none = none
-  starred_args ps (more a xs) = more (starred_arg ps a) (starred_args ps xs)
+-- the parameter alone that an argument is read as. What a function type takes or gives is no argument, and an argument of an `in` parameter keeps
+-- its `?`: where types are taken downwards the bound stands there, and it must be above each value's type
+abbrev pub read_alone : Bool → Variance → List HeadParam → Ty → Option ℕ
+read_alone true v ps t = None
+read_alone false Contravariant ps t = None
+read_alone false Covariant ps t = bare ps t
+read_alone false Invariant ps t = bare ps t
 
+module _ (h : Heads) (ps : List HeadParam) where
+  -- each other argument that is such a parameter, with `?`, with `out` or with both, is read as the parameter alone
+  abbrev mutual
+    pub bared : Ty → Ty
+    bared (Class c xs) = Class c (bared_args (h.is_function c) (h.params c) xs)
+    bared (Param x) = Param x
+    bared Nothing = Nothing
+    bared (Nullable t) = Nullable (bared t)
+
+    pub bared_arg : Bool → Variance → Arg → Arg
+    bared_arg f v (Exact t) = or_alone (read_alone f v ps t) (Exact (bared t))
+    bared_arg f v (Out t) = or_alone (read_alone f v ps t) (Out (bared t))
+    bared_arg f v (In t) = In (bared t)
+    bared_arg f v Star = Star
+
+    pub bared_args : Bool → List HeadParam → Args → Args
+    bared_args f qs none = none
+    bared_args f qs (more a xs) = more (bared_arg f (variance_at qs) a) (bared_args f (rest_of qs) xs)
+
+-- a bound that is a parameter, with `?` or not, leads on to that parameter's bound
 abbrev pub bound_in : List HeadParam → ℕ → Ty
 bound_in [] x = Param x
 bound_in (p ∷ ps) x = cond (nat_eq p.var x) p.bound (bound_in ps x)
 
--- bounds that are parameters lead on; there are as many steps as parameters
-abbrev pub star_bound : ℕ → List HeadParam → Ty → Ty
-star_bound n ps (Class c xs) = Class c (starred_args ps xs)
-star_bound n ps Nothing = Nothing
-star_bound zero ps (Param x) = Param x
-star_bound (suc n) ps (Param x) = star_bound n ps (bound_in ps x)
-star_bound zero ps (Nullable t) = Nullable t
-star_bound (suc n) ps (Nullable t) = nullable (star_bound n ps t)
+abbrev pub lead : List HeadParam → Ty → Ty
+lead ps (Class c xs) = Class c xs
+lead ps (Param x) = bound_in ps x
+lead ps Nothing = Nothing
+lead ps (Nullable t) = nullable (lead ps t)
+
+abbrev pub led : ℕ → List HeadParam → Ty → Ty
+led zero ps t = t
+led (suc n) ps t = led n ps (lead ps t)
+
+-- each parameter has a star in its place
+abbrev pub stars : (HeadParam → Ty) → List HeadParam → List Given
+stars tops [] = []
+stars tops (p ∷ ps) = record { var = p.var; arg = Star; top = tops p } ∷ stars tops ps
+
+-- the bound, or that of the parameter that it leads to, is taken upwards with a star in the place of each parameter of the class; an argument
+-- that is such a parameter is a star then, where it gives values; where it takes them, it is `Nothing` or what contains that. Bounds lead to
+-- no more parameters than the class has. A function type has no projections: its result is taken upwards and its parameters downwards, where
+-- a star gives its own parameter's bound. Bounds that lead on so may lead back, as `T : () -> T`: they are followed as often as the class
+-- has parameters, and then a star is `Any?`.
+abbrev pub star_at : ℕ → Heads → ℕ → HeadParam → Ty
+star_at zero h c p = anything h
+star_at (suc n) h c p = up h (stars (star_at n h c) (h.params c)) (bared h (h.params c) (led (length (h.params c)) (h.params c) p.bound))
+
+abbrev pub star_bound : Heads → ℕ → HeadParam → Ty
+star_bound h c = star_at (length (h.params c)) h c
 
 -- what each parameter of a class stands for in a type of that class
-abbrev pub given_all : List HeadParam → List HeadParam → Args → List Given
-given_all all [] xs = []
-given_all all (p ∷ ps) none = []
-given_all all (p ∷ ps) (more a xs) = record { var = p.var; arg = a; top = star_bound (length all) all p.bound } ∷ given_all all ps xs
+abbrev pub given_all : (HeadParam → Ty) → List HeadParam → Args → List Given
+given_all tops [] xs = []
+given_all tops (p ∷ ps) none = []
+given_all tops (p ∷ ps) (more a xs) = record { var = p.var; arg = a; top = tops p } ∷ given_all tops ps xs
 
 -- an argument as its parameter's variance has it: a projection that says what the variance says is the type itself, and one against
 -- it a star
@@ -248,4 +292,4 @@ reduced_args (p ∷ ps) none = none
 reduced_args (p ∷ ps) (more a xs) = more (reduced p.variance a) (reduced_args ps xs)
 
 abbrev pub class_given : Heads → ℕ → Args → List Given
-class_given h c xs = given_all (h.params c) (h.params c) (reduced_args (h.params c) xs)
+class_given h c xs = given_all (star_bound h c) (h.params c) (reduced_args (h.params c) xs)

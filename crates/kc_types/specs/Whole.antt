@@ -1,5 +1,5 @@
 -- The core as a part of the whole: its types are types without projections, its heads a part of other heads.
-use Rattle.std.specs.Prelude.{◌≡◌, ℕ, zero, suc, false, List, [], ◌∷◌, map}
+use Rattle.std.specs.Prelude.{◌≡◌, ℕ, zero, suc, false, List, [], ◌∷◌, map, ◌⊎◌}
 use Rattle.kc_types.specs.Types.{Ty, Class, Param, Nothing, Nullable, Exact, Args, none, more, Variance, Invariant, Covariant, Contravariant, HeadParam, Heads, nullable}
 use Rattle.kc_types.specs.Supertypes.{IsIn}
 use Rattle.kc_types.specs.Formed.{Different}
@@ -35,11 +35,13 @@ parameter_at [] k = Nothing
 parameter_at (p ∷ ps) zero = Param p.var
 parameter_at (p ∷ ps) (suc k) = parameter_at ps k
 
--- each class of the core has its parameters' variances, which may have bounds, and its direct supertypes, with others beside them
+-- each class of the core has its parameters' variances, which may have bounds, and its direct supertypes, with others beside them; the class
+-- of all objects need not be among them, since it is above each class in any case. So a number that is no class's may have it above in
+-- the core, and nothing in the whole
 pub record CoreOf (h : Heads) (part : core.Heads) : Type 0 where
   pub variances : (c : ℕ) → Matches (h.params c) (part.vars c)
   pub different : (c : ℕ) → Different (h.params c)
-  pub supers : (c : ℕ) (s : core.Super) → IsIn core.Super s (part.supers c) → IsIn Ty (Class s.class (whole_args (parameter_at (h.params c)) s.args)) (h.supers c)
+  pub supers : (c : ℕ) (s : core.Super) → IsIn core.Super s (part.supers c) → (s.class ≡ part.any) ⊎ IsIn Ty (Class s.class (whole_args (parameter_at (h.params c)) s.args)) (h.supers c)
   pub any : part.any ≡ h.any
 
 -- heads of which the core's are a part: a class's parameters are numbered from 0, with the bound `Any?`

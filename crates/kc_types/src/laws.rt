@@ -2,8 +2,8 @@
 
 ghost use Rattle.kc_types.specs.Examples.{ExamplesHold};
 ghost use Rattle.kc_types.specs.Endless.{Endless};
-ghost use Rattle.kc_types.specs.Decided.{DecidedIsExact, DecidedIsTransitive};
-ghost use Rattle.kc_types.specs.Laws.{BelowIsSound, SupertypesAreListed, HasInstances, BelowGrows, BelowIsReflexive, BelowHasInstances, ChoicesCompose, UpwardsIsAbove, DownwardsIsBelow, HasValidHeads, SubIsPerhaps, BelowIsFormed, FormedIsSub, BelowComposes, ViewIsSound, CoreIsPart, CoreHasWhole, CoreAgrees, CoreIsTransitive, CoreIsReflexive, CoreHasHeads, CoreHasInstances, CoreKeepsPutting};
+ghost use Rattle.kc_types.specs.Decided.{DecidedIsExact, DecidedIsTransitive, QuestionsEnd, SubIsBelow, BelowIsTransitive, HasEndingHeads, HasEndingTrees};
+ghost use Rattle.kc_types.specs.Laws.{BelowIsSound, SupertypesAreListed, HasInstances, BelowGrows, BelowIsReflexive, BelowHasInstances, ChoicesCompose, StarsAreAbove, UpwardsIsAbove, DownwardsIsBelow, HasValidHeads, SubIsPerhaps, BelowIsFormed, FormedIsSub, BelowComposes, ViewIsSound, CoreIsPart, CoreHasWhole, CoreAgrees, CoreIsTransitive, CoreIsReflexive, CoreHasHeads, CoreHasInstances, CoreKeepsPutting};
 
 /// What the recursion without a rule of transitivity accepts is a subtype.
 pub fn below_is_sound()
@@ -38,6 +38,11 @@ pub fn below_has_instances()
 /// Arguments that give way to bounds twice might do so at once.
 pub fn choices_compose()
     ensures { ChoicesCompose }
+{}
+
+/// Arguments that keep their bounds as these are written keep them as a star reads them.
+pub fn stars_are_above()
+    ensures { StarsAreAbove }
 {}
 
 /// A type taken upwards is above what it is with any arguments that are contained and keep their bounds.
@@ -86,6 +91,32 @@ pub fn decided_is_transitive()
     ensures { DecidedIsTransitive }
 {}
 
+/// Over hierarchies with the limits on `in`, where bounds of classes' parameters are loose, as `Any?` and `Comparable<*>`, each question is
+/// decided at some height.
+pub fn questions_end()
+    ensures { QuestionsEnd }
+{}
+
+/// Over these hierarchies what is below by the rules, by way of formed types, is below by the recursion.
+pub fn sub_is_below()
+    ensures { SubIsBelow }
+{}
+
+/// Over these hierarchies the recursion is transitive.
+pub fn below_is_transitive()
+    ensures { BelowIsTransitive }
+{}
+
+/// The heads of the examples are such a hierarchy, and so are heads with bounds that name their own parameter.
+pub fn has_ending_heads()
+    ensures { HasEndingHeads }
+{}
+
+/// So are heads that trees stand for, of `Any` and of a class with a type parameter.
+pub fn has_ending_trees()
+    ensures { HasEndingTrees }
+{}
+
 /// A value that is of a class or below it has the view of its declared type at this class.
 pub fn view_is_sound()
     ensures { ViewIsSound }
@@ -96,8 +127,8 @@ pub fn examples_hold()
     ensures { ExamplesHold }
 {}
 
-/// In hierarchies that break a rule on supertypes' arguments or on bounds there are questions that never get a yes, though they only
-/// lead on to themselves.
+/// In hierarchies that break a rule on supertypes' arguments or on bounds there are questions that lead on to themselves and get a yes at
+/// no height.
 pub fn questions_are_endless()
     ensures { Endless }
 {}
