@@ -1,4 +1,4 @@
--- How many tokens a tree takes at least. Brackets, braces and `;`, which leave nothing in the tree, are not counted.
+-- How many tokens a tree takes at least. Brackets round expressions, the braces of bodies, and `;`, which leave nothing in the tree, are not counted.
 use Rattle.std.specs.Prelude.{ℕ, ◌+◌, ◌≤◌, List, map, length, Some, None}
 use Rattle.kc_core.specs.Sizes.{total}
 use Rattle.form_parser.specs.declared.surface.Expression.{Expression}
