@@ -1,5 +1,5 @@
 //! The links of a list, the last one first.
-ghost use Rattle.std.specs.Prelude.{◌≡◌, ◌-◌, IfOk, length, map, reverse, take};
+ghost use Rattle.std.specs.Prelude.{◌≡◌, ◌-◌, IfOk, drop, length, map, reverse, take};
 ghost use Rattle.shared_list.specs.Chains.{elements};
 
 use kc_text::Memory;
@@ -41,15 +41,20 @@ pub fn without_last<T>(chain: &Rc<Chain<T>>, gone: usize) -> &Rc<Chain<T>>
     left
 }
 
-/// The elements, the last one first.
-pub fn from_the_end<T>(alloc: Global, chain: &Rc<Chain<T>>) -> Result<Vec<&T>, Memory>
-    ensures { IfOk result (λ all. map (λ element. element.now) all.items ≡ reverse (elements chain.now.value)) }
+/// The last elements, so many of them or all, the last one first.
+pub fn from_the_end<T>(alloc: Global, chain: &Rc<Chain<T>>, count: usize) -> Result<Vec<&T>, Memory>
+    ensures { IfOk result (λ all. map (λ element. element.now) all.items ≡ reverse (drop (length (elements chain.now.value) - count) (elements chain.now.value))) }
 {
     let mut all = Vec::new(alloc);
     let mut left = &**chain;
-    while let Chain::Link(last, rest) = left {
-        all.push(last)?;
-        left = rest;
+    for _ in 0..count {
+        match left {
+            Chain::End => return Ok(all),
+            Chain::Link(last, rest) => {
+                all.push(last)?;
+                left = rest;
+            }
+        }
     }
     Ok(all)
 }

@@ -1,5 +1,5 @@
 //! A list that grows and shrinks at its end and shares its front.
-ghost use Rattle.std.specs.Prelude.{◌≡◌, ◌++◌, ◌∷◌, ◌-◌, [], List, length, take, map, IfOk, OnOk, OnErr, MatchOption};
+ghost use Rattle.std.specs.Prelude.{◌≡◌, ◌++◌, ◌∷◌, ◌-◌, [], List, length, take, drop, map, IfOk, OnOk, OnErr, MatchOption};
 ghost use Rattle.shared_list.specs.Chains.{elements};
 
 use crate::chain::{Chain, from_the_end, without_last};
@@ -104,7 +104,14 @@ impl<T: Drop> SharedList<T> {
     pub fn in_order(&self, alloc: Global) -> Result<Vec<&T>, Memory>
         ensures { IfOk result (λ all. map (λ element. element.now) all.items ≡ self.now) }
     {
-        let mut all = from_the_end(alloc, &self.chain)?;
+        self.last_in_order(alloc, self.len)
+    }
+
+    /// The last elements in their order, so many of them or all, in time linear in their number.
+    pub fn last_in_order(&self, alloc: Global, count: usize) -> Result<Vec<&T>, Memory>
+        ensures { IfOk result (λ all. map (λ element. element.now) all.items ≡ drop (length self.now - count) self.now) }
+    {
+        let mut all = from_the_end(alloc, &self.chain, count)?;
         all.reverse();
         Ok(all)
     }

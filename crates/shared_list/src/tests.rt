@@ -45,3 +45,14 @@ fn keeps_the_order(rt: HostRuntime) -> Result<(), Fail> {
     assert_eq!(rt; copy.as_slice(), [3, 1, 2].as_slice());
     Ok(())
 }
+
+#[test]
+fn gives_the_last_ones(rt: HostRuntime) -> Result<(), Fail> {
+    let list = SharedList::from_slice(rt.alloc(), [3u8, 1, 2].as_slice())?;
+    let two = list.last_in_order(rt.alloc(), 2)?;
+    assert_eq!(rt; two.len(), 2);
+    assert_eq!(rt; two.first().map(|first| **first), Some(1));
+    assert!(rt; list.last_in_order(rt.alloc(), 0)?.is_empty());
+    assert_eq!(rt; list.last_in_order(rt.alloc(), 9)?.len(), 3);
+    Ok(())
+}
