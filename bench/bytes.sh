@@ -1,7 +1,8 @@
 #!/usr/bin/env bash
 # Times the reader and the writer of class files on generated classes of growing size, by the program of crates/class_copy, and prints
-# the seconds and how they grow when the class doubles. A class with a byte behind its end is read whole and then refused, which is the
-# time of reading alone. Needs the Rattle kit.
+# the seconds and how they grow when the class doubles: methods with long code, then methods whose many frames all have many locals,
+# which the bytes spell once. A class with a byte behind its end is read whole and then refused, which is the time of reading alone.
+# Needs the Rattle kit.
 set -eu
 top=$(cd "$(dirname "${BASH_SOURCE[0]}")/.." && pwd)
 work=$(mktemp -d)
@@ -17,16 +18,21 @@ u2() { printf "\\x$(printf %02x $(($1 / 256)))\\x$(printf %02x $(($1 % 256)))"; 
 u4() { u2 $(($1 / 65536)); u2 $(($1 % 65536)); }
 text() { printf '\x01'; u2 ${#1}; printf %s "$1"; }
 
-# so many static methods of 65,535 bytes of code each
-class() {
+# the head of a class, with so many entries of the pool, and the entries that each class has
+begin() {
     printf '\xca\xfe\xba\xbe\0\0\0\x34'
-    u2 $((7 + $1))
+    u2 "$1"
     text M
     printf '\x07\0\x01'
     text java/lang/Object
     printf '\x07\0\x03'
     text '()V'
     text Code
+}
+
+# so many static methods of 65,535 bytes of code each
+class() {
+    begin $((7 + $1))
     for ((i = 0; i < $1; i++)); do text "m$i"; done
     printf '\0\x21\0\x02\0\x04\0\0\0\0'
     u2 "$1"
@@ -43,6 +49,28 @@ class() {
     printf '\0\0'
 }
 
+# one method with so many frames, each with 60,000 locals: the first frame tells them all, the others that they are the same
+framed() {
+    begin 9
+    text m
+    text StackMapTable
+    printf '\0\x21\0\x02\0\x04\0\0\0\0\0\x01\0\x09\0\x07\0\x05\0\x01\0\x06'
+    local table=$((2 + 7 + 60000 + $1 - 1))
+    u4 $((12 + 65535 + 6 + table))
+    printf '\0\0\xff\xff'
+    u4 65535
+    head -c 65534 /dev/zero
+    printf '\xb1\0\0\0\x01\0\x08'
+    u4 "$table"
+    u2 "$1"
+    printf '\xff\0\0'
+    u2 60000
+    head -c 60000 /dev/zero | tr '\0' '\1'
+    printf '\0\0'
+    head -c $(($1 - 1)) /dev/zero
+    printf '\0\0'
+}
+
 # milliseconds that the program takes for a file
 took() {
     local start end
@@ -54,16 +82,27 @@ took() {
 
 seconds() { printf '%d.%03d' $(($1 / 1000)) $(($1 % 1000)); }
 
-cd "$work"
-before=
-echo 'MiB   read  and written  ratio  told'
-for size in 1 2 4 8 16; do
-    class $((size * 16)) >M.class
+# a row of numbers for the class in M.class
+row() {
     { cat M.class; printf '\0'; } >Trailing.class
+    local read both ratio=-
     read=$(took Trailing.class)
     both=$(took M.class)
-    ratio=-
     [ -n "$before" ] && [ "$before" -gt 0 ] && ratio=$((both * 100 / before))%
-    printf '%3d  %s  %s  %s  %s\n' "$size" "$(seconds "$read")" "$(seconds "$both")" "$ratio" "$(cat told)"
+    printf '%6d  %s  %s  %s  %s\n' "$1" "$(seconds "$read")" "$(seconds "$both")" "$ratio" "$(cat told)"
     before=$both
+}
+
+cd "$work"
+before=
+echo '   MiB  read  and written  ratio  told'
+for size in 1 2 4 8 16; do
+    class $((size * 16)) >M.class
+    row "$size"
+done
+before=
+echo 'frames  read  and written  ratio  told'
+for size in 4000 8000 16000 32000 64000; do
+    framed "$size" >M.class
+    row "$size"
 done

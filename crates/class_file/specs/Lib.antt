@@ -12,6 +12,7 @@ pub mod Typing
 pub mod Verification
 pub mod InstrBytes
 pub mod ClassBytes
+pub mod Fronts
 pub mod WrittenClass
 pub mod Opcodes
 pub mod Inputs

@@ -1,6 +1,6 @@
 -- The one spelling of a class that is written: a name by the first entry that has it, a frame in the first form that fits, and
 -- the attributes with a meaning in front of the others.
-use Rattle.std.specs.Prelude.{ℕ, ◌+◌, ◌-◌, List, [], ◌∷◌, ◌++◌, length, Option, Some, None, Bool, true, false, ◌==◌, nat_lt, if◌then◌else◌}
+use Rattle.std.specs.Prelude.{ℕ, ◌+◌, ◌-◌, List, [], ◌∷◌, ◌++◌, length, Option, Some, None, Bool, false, nat_lt, if◌then◌else◌}
 use Rattle.std.specs.List.{flat_map}
 use Rattle.class_file.specs.declared.class.Attribute.{Attribute}
 use Rattle.class_file.specs.declared.class.Field.{Field}
@@ -13,6 +13,7 @@ use Rattle.class_file.specs.declared.class.ClassFile.{ClassFile}
 use Rattle.class_file.specs.declared.instr.Instr.{Instr}
 use Rattle.class_file.specs.declared.pool.Entry.{Entry}
 use Rattle.class_file.specs.Pools.{Slots, text_in, name_in, is_text}
+use Rattle.class_file.specs.Fronts.{is_type}
 use Rattle.class_file.specs.InstrBytes.{u1, u2, u4, instr_bytes}
 use Rattle.class_file.specs.ClassBytes.{pool_bytes, Before, at_start, behind_frame, code_name, stack_map_table, magic, major_version}
 
@@ -79,16 +80,6 @@ type_bytes slots type.Null = u1 5
 type_bytes slots type.UninitializedThis = u1 6
 type_bytes slots (type.Object name) = u1 7 ++ name_bytes slots name
 type_bytes slots (type.Uninitialized at) = u1 8 ++ u2 at
-
-abbrev pub is_type : VType → VType → Bool
-is_type type.Top type.Top = true
-is_type type.Integer type.Integer = true
-is_type type.Long type.Long = true
-is_type type.Null type.Null = true
-is_type type.UninitializedThis type.UninitializedThis = true
-is_type (type.Object b) (type.Object c) = is_text b c
-is_type (type.Uninitialized p) (type.Uninitialized q) = p == q
-is_type _ _ = false
 
 -- what stands in the second list behind the first, if it begins with that
 abbrev pub behind : List VType → List VType → Option (List VType)

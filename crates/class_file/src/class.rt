@@ -1,5 +1,6 @@
 //! Class files as values.
 
+use crate::frames::Frames;
 use crate::instr::Instr;
 use crate::pool::Pool;
 use kc_text::Text;
@@ -45,8 +46,8 @@ pub enum VType {
 }
 
 /// A frame that a method gives (4.7.4), at a place in bytes. A `Long` is one entry of `locals` and of `stack`. `unset` says that
-/// the method is a constructor that has not called another constructor yet. Frames share the locals that they have in common, so
-/// that a method's frames take memory linear in the bytes that spell them.
+/// the method is a constructor that has not called another constructor yet. Frames that are read
+/// share the locals that they have in common; each type holds the name of its class.
 #[derive(Drop)]
 pub struct Frame {
     pub at: usize,
@@ -65,7 +66,7 @@ pub struct Method {
     pub max_locals: u16,
     pub code: Items<Instr>,
     pub handlers: Items<Handler>,
-    pub frames: Items<Frame>,
+    pub frames: Frames,
     pub code_others: Items<Attribute>,
     pub others: Items<Attribute>,
 }

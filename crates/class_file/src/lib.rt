@@ -3,6 +3,7 @@
 
 pub mod class;
 pub mod format_fault;
+pub mod frames;
 pub mod instr;
 pub mod pool;
 pub mod row;

@@ -2,6 +2,7 @@
 //! Specification SE 8.
 use crate::{LoadFault, Machine, RunEnd};
 use class_file::class::{ClassFile, Frame, Handler, Method, Set, VType};
+use class_file::frames::Frames;
 use class_file::instr::Instr;
 use class_file::pool::{Entry, Pool};
 use kc_io::{MemorySink, MemorySource};
@@ -80,17 +81,20 @@ fn pool_of(alloc: Global) -> Result<Pool, Memory> {
     Ok(pool)
 }
 
-fn frames_of(alloc: Global, handler: Option<Handler>) -> Result<Items<Frame>, Memory> {
-    let mut frames = Items::new(alloc);
+fn frames_of(alloc: Global, handler: Option<Handler>) -> Result<Frames, Memory> {
+    let mut frames = Frames::new(alloc);
     if let Some(handler) = handler {
         let mut stack = Items::new(alloc);
         stack.push(VType::Object(Text::from_str(alloc, "java/lang/ArithmeticException")?))?;
-        frames.push(Frame {
-            at: handler.at,
-            locals: SharedList::new(alloc)?,
-            stack,
-            unset: false,
-        })?;
+        frames.push(
+            alloc,
+            Frame {
+                at: handler.at,
+                locals: SharedList::new(alloc)?,
+                stack,
+                unset: false,
+            },
+        )?;
     }
     Ok(frames)
 }

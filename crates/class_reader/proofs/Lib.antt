@@ -12,3 +12,4 @@ pub mod Pieces
 pub mod Places
 pub mod Spelling
 pub mod Unset
+pub mod Fronts

@@ -14,8 +14,9 @@ use crate::input::{Failure, Input, ended, fault, part_at, u2_at, u4_at};
 use crate::instructions::code_array_at;
 use crate::locals::FrameLocals;
 use crate::names::{catch_type_at, text_named};
-use class_file::class::{Attribute, Frame, Handler};
+use class_file::class::{Attribute, Handler};
 use class_file::format_fault::FormatCode;
+use class_file::frames::Frames;
 use class_file::instr::Instr;
 use class_file::pool::Pool;
 use kc_text::Text;
@@ -29,7 +30,7 @@ pub struct Code {
     pub max_locals: u16,
     pub instrs: Items<Instr>,
     pub handlers: Items<Handler>,
-    pub frames: Items<Frame>,
+    pub frames: Frames,
     pub others: Items<Attribute>,
 }
 
@@ -102,7 +103,7 @@ fn sized_frames<'b>(
     pool: &Pool,
     start: &FrameLocals,
     input: Input<'b>,
-) -> Result<(Items<Frame>, Input<'b>), Failure>
+) -> Result<(Frames, Input<'b>), Failure>
     ensures { Reads (λ frames. frames) result (sized (stack_map_at pool.now (started start.now)) (input_of input.entry)) }
 {
     let (count, rest) = u4_at(input)?;
@@ -119,7 +120,7 @@ fn each_attribute<'b>(
     start: &FrameLocals,
     count: u16,
     input: Input<'b>,
-) -> Result<(Attributes<Items<Frame>>, Input<'b>), Failure>
+) -> Result<(Attributes<Frames>, Input<'b>), Failure>
     ensures { Reads among_of result (among_at pool.now stack_map_table true (stack_map_at pool.now (started start.now)) count (attributes None []) (input_of input.entry)) }
 {
     let mut known = None;
@@ -143,12 +144,12 @@ fn each_attribute<'b>(
     Ok((Attributes { known, others }, rest))
 }
 
-fn or_none(alloc: Global, frames: Option<Items<Frame>>) -> Items<Frame>
+fn or_none(alloc: Global, frames: Option<Frames>) -> Frames
     ensures { result ≡ or_none frames }
 {
     match frames {
         Some(frames) => frames,
-        None => Items::new(alloc),
+        None => Frames::new(alloc),
     }
 }
 

@@ -1,5 +1,7 @@
 //! Frames from bytes (Java Virtual Machine Specification SE 8, 4.7.4).
-ghost use Rattle.std.specs.Prelude.{◌≡◌, ◌+◌, ◌-◌, ◌*◌, ◌<◌, ◌≤◌, ◌^◌, IfOk, [], ◌∷◌, length, false};
+ghost use Rattle.std.specs.Prelude.{◌≡◌, ◌+◌, ◌-◌, ◌*◌, ◌<◌, ◌≤◌, ◌^◌, IfOk, List, [], ◌∷◌, length, false};
+ghost use Rattle.class_file.specs.declared.class.VType.{VType};
+ghost use Rattle.class_file.specs.Fronts.{common_front, last_locals};
 ghost use Rattle.class_file.specs.Inputs.{each, table};
 ghost use Rattle.class_file.specs.FormatFaults.{object_at, uninitialized_at, type_at, frame, one_item, full_frame, more_locals, long_form, frame_at, frames_at, stack_map_at};
 ghost use Rattle.class_reader.specs.Reads.{Reads, input_of};
@@ -11,10 +13,18 @@ use crate::locals::FrameLocals;
 use crate::names::type_named;
 use class_file::class::{Frame, VType};
 use class_file::format_fault::FormatCode;
+use class_file::frames::{Frames, common_front};
 use class_file::pool::Pool;
 use kc_text::Memory;
 use sqlite_items::Items;
 use std::alloc::Global;
+
+// A frame, and how many locals it has in common with those before it.
+#[derive(Drop)]
+struct Given {
+    frame: Frame,
+    front: usize,
+}
 
 fn object_at<'b>(
     alloc: Global,
@@ -142,6 +152,7 @@ fn frame(
     })
 }
 
+#[tactic(auto, using(crate::proofs::Fronts::front_of_same))]
 fn one_item<'b>(
     alloc: Global,
     pool: &Pool,
@@ -149,14 +160,17 @@ fn one_item<'b>(
     locals: &FrameLocals,
     delta: u16,
     input: Input<'b>,
-) -> Result<(Frame, Input<'b>), Failure>
+) -> Result<(Given, Input<'b>), Failure>
     requires { first < 2 ^ 62 }
-    ensures exact { Reads (λ f. f) result (one_item pool.now (before first locals.now) delta (input_of input.entry)) }
-    ensures locals { IfOk result (λ x. x.0.locals ≡ locals.now) }
+    ensures exact { Reads (λ g. g.frame) result (one_item pool.now (before first locals.now) delta (input_of input.entry)) }
+    ensures locals { IfOk result (λ x. x.0.frame.locals ≡ locals.now) }
+    ensures front { IfOk result (λ x. x.0.front ≡ common_front locals.now x.0.frame.locals) }
 {
     let (item, rest) = type_at(alloc, pool, input)?;
     let stack = one(alloc, item)?;
-    Ok((frame(first, locals, delta, stack)?, rest))
+    let front = locals.len();
+    let frame = frame(first, locals, delta, stack)?;
+    Ok((Given { frame, front }, rest))
 }
 
 fn full_frame<'b>(
@@ -166,15 +180,18 @@ fn full_frame<'b>(
     locals: &mut FrameLocals,
     delta: u16,
     input: Input<'b>,
-) -> Result<(Frame, Input<'b>), Failure>
+) -> Result<(Given, Input<'b>), Failure>
     requires { first < 2 ^ 62 }
-    ensures exact { Reads (λ f. f) result (full_frame pool.now (before first locals.old) delta (input_of input.entry)) }
-    ensures locals { IfOk result (λ x. x.0.locals ≡ locals.new) }
+    ensures exact { Reads (λ g. g.frame) result (full_frame pool.now (before first locals.old) delta (input_of input.entry)) }
+    ensures locals { IfOk result (λ x. x.0.frame.locals ≡ locals.new) }
+    ensures front { IfOk result (λ x. x.0.front ≡ common_front locals.old x.0.frame.locals) }
 {
     let (given, rest) = locals_at(alloc, pool, input)?;
+    let front = common_front(alloc, &locals.types()?, &given.types()?)?;
     *locals = given;
     let (stack, rest) = types_at(alloc, pool, rest)?;
-    Ok((frame(first, locals, delta, stack)?, rest))
+    let frame = frame(first, locals, delta, stack)?;
+    Ok((Given { frame, front }, rest))
 }
 
 fn more_locals<'b>(
@@ -185,13 +202,16 @@ fn more_locals<'b>(
     delta: u16,
     count: u16,
     input: Input<'b>,
-) -> Result<(Frame, Input<'b>), Failure>
+) -> Result<(Given, Input<'b>), Failure>
     requires { first < 2 ^ 62 }
-    ensures exact { Reads (λ f. f) result (more_locals pool.now (before first locals.old) delta count (input_of input.entry)) }
-    ensures locals { IfOk result (λ x. x.0.locals ≡ locals.new) }
+    ensures exact { Reads (λ g. g.frame) result (more_locals pool.now (before first locals.old) delta count (input_of input.entry)) }
+    ensures locals { IfOk result (λ x. x.0.frame.locals ≡ locals.new) }
+    ensures front { IfOk result (λ x. x.0.front ≡ common_front locals.old x.0.frame.locals) }
 {
+    let front = locals.len();
     let rest = push_each(alloc, pool, locals, count, input)?;
-    Ok((frame(first, locals, delta, Items::new(alloc))?, rest))
+    let frame = frame(first, locals, delta, Items::new(alloc))?;
+    Ok((Given { frame, front }, rest))
 }
 
 // Is it no form, or one that takes away more locals than there are or adds more than a frame can have?
@@ -211,6 +231,7 @@ fn is_bad_form(tag: u8, locals: usize) -> bool
 }
 
 // Behind the difference of the places, in the forms that have it in two bytes.
+#[tactic(auto, using(crate::proofs::Fronts::front_of_first))]
 fn long_form<'b>(
     alloc: Global,
     pool: &Pool,
@@ -219,18 +240,21 @@ fn long_form<'b>(
     tag: u8,
     delta: u16,
     input: Input<'b>,
-) -> Result<(Frame, Input<'b>), Failure>
+) -> Result<(Given, Input<'b>), Failure>
     requires small { first < 2 ^ 62 }
     requires form { is_bad_form tag (length locals.old) ≡ false }
-    ensures exact { Reads (λ f. f) result (long_form pool.now (before first locals.old) tag delta (input_of input.entry)) }
-    ensures locals { IfOk result (λ x. x.0.locals ≡ locals.new) }
+    ensures exact { Reads (λ g. g.frame) result (long_form pool.now (before first locals.old) tag delta (input_of input.entry)) }
+    ensures locals { IfOk result (λ x. x.0.frame.locals ≡ locals.new) }
+    ensures front { IfOk result (λ x. x.0.front ≡ common_front locals.old x.0.frame.locals) }
 {
     if tag == 247 {
         return one_item(alloc, pool, first, locals, delta, input);
     }
     if tag < 252 {
         locals.take_last(251 - tag as usize)?;
-        return Ok((frame(first, locals, delta, Items::new(alloc))?, input));
+        let front = locals.len();
+        let frame = frame(first, locals, delta, Items::new(alloc))?;
+        return Ok((Given { frame, front }, input));
     }
     if tag < 255 {
         return more_locals(alloc, pool, first, locals, delta, tag as u16 - 251, input);
@@ -239,22 +263,25 @@ fn long_form<'b>(
 }
 
 // The next frame, and its local variables in place of those of the frame before.
-#[tactic(auto, unfolding(class_file::specs::FormatFaults::frame_at))]
+#[tactic(auto, using(crate::proofs::Fronts::front_of_same), unfolding(class_file::specs::FormatFaults::frame_at))]
 fn frame_at<'b>(
     alloc: Global,
     pool: &Pool,
     first: usize,
     locals: &mut FrameLocals,
     input: Input<'b>,
-) -> Result<(Frame, Input<'b>), Failure>
+) -> Result<(Given, Input<'b>), Failure>
     requires { first < 2 ^ 62 }
-    ensures exact { Reads (λ f. f) result (frame_at pool.now (before first locals.old) (input_of input.entry)) }
-    ensures locals { IfOk result (λ x. x.0.locals ≡ locals.new) }
-    ensures near { IfOk result (λ x. x.0.at < first + 2 ^ 16) }
+    ensures exact { Reads (λ g. g.frame) result (frame_at pool.now (before first locals.old) (input_of input.entry)) }
+    ensures locals { IfOk result (λ x. x.0.frame.locals ≡ locals.new) }
+    ensures front { IfOk result (λ x. x.0.front ≡ common_front locals.old x.0.frame.locals) }
+    ensures near { IfOk result (λ x. x.0.frame.at < first + 2 ^ 16) }
 {
     let (tag, rest) = u1_at(input)?;
     if tag < 64 {
-        return Ok((frame(first, locals, tag as u16, Items::new(alloc))?, rest));
+        let front = locals.len();
+        let frame = frame(first, locals, tag as u16, Items::new(alloc))?;
+        return Ok((Given { frame, front }, rest));
     }
     if tag < 128 {
         return one_item(alloc, pool, first, locals, tag as u16 - 64, rest);
@@ -266,23 +293,31 @@ fn frame_at<'b>(
     long_form(alloc, pool, first, locals, tag, delta, rest)
 }
 
+// The same number in a method's frames, of which the first one has none before it.
+fn front_behind(frames: &Frames, given: &Given) -> usize
+    ensures { (start : List VType) → given.now.front ≡ common_front (last_locals start frames.now) given.now.frame.locals → result ≡ common_front (last_locals [] frames.now) given.now.frame.locals }
+{
+    if frames.len() == 0 { 0 } else { given.front }
+}
+
 fn each_frame<'b>(
     alloc: Global,
     pool: &Pool,
     start: &FrameLocals,
     count: u16,
     input: Input<'b>,
-) -> Result<(Items<Frame>, Input<'b>), Failure>
+) -> Result<(Frames, Input<'b>), Failure>
     ensures { Reads (λ frames. frames) result (frames_at pool.now count (started start.now) (input_of input.entry)) }
 {
-    let mut frames = Items::new(alloc);
+    let mut frames = Frames::new(alloc);
     let mut locals = start.share()?;
     let mut first = 0;
     let mut rest = input;
     for _ in 0..count {
-        let (frame, behind) = frame_at(alloc, pool, first, &mut locals, rest)?;
-        first = frame.at + 1;
-        frames.push(frame)?;
+        let (given, behind) = frame_at(alloc, pool, first, &mut locals, rest)?;
+        first = given.frame.at + 1;
+        let front = front_behind(&frames, &given);
+        frames.push_behind(given.frame, front)?;
         rest = behind;
     }
     Ok((frames, rest))
@@ -295,7 +330,7 @@ pub fn stack_map_at<'b>(
     pool: &Pool,
     start: &FrameLocals,
     input: Input<'b>,
-) -> Result<(Items<Frame>, Input<'b>), Failure>
+) -> Result<(Frames, Input<'b>), Failure>
     ensures { Reads (λ frames. frames) result (stack_map_at pool.now (started start.now) (input_of input.entry)) }
 {
     let (count, rest) = u2_at(input)?;

@@ -21,6 +21,7 @@ use crate::names::text_named;
 use crate::seen::Seen;
 use class_file::class::{Attribute, Field, Method};
 use class_file::format_fault::FormatCode;
+use class_file::frames::Frames;
 use class_file::pool::Pool;
 use kc_text::{Memory, Text};
 use sqlite_items::Items;
@@ -204,7 +205,7 @@ fn no_code(alloc: Global) -> Code
         max_locals: 0,
         instrs: Items::new(alloc),
         handlers: Items::new(alloc),
-        frames: Items::new(alloc),
+        frames: Frames::new(alloc),
         others: Items::new(alloc),
     }
 }

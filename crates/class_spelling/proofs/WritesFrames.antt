@@ -10,7 +10,8 @@ use Rattle.class_file.specs.Pools.{Slots}
 use Rattle.class_file.specs.InstrBytes.{u1, u2}
 use Rattle.class_file.specs.ClassBytes.{◌⌢◌, Is, U2, Each, Table, TypeIs, Before, place_behind, FrameIs, FormIs, FramesAre, StackMapIs, behind_frame, Stands}
 use Rattle.class_file.specs.ClassBytes as form
-use Rattle.class_file.specs.WrittenClass.{type_bytes, is_type, behind, delta_of, same_bytes, item_bytes, full_bytes, longer_bytes, shorter_bytes, no_stack_bytes, one_item_bytes, form_bytes, frame_bytes, frames_bytes}
+use Rattle.class_file.specs.WrittenClass.{type_bytes, behind, delta_of, same_bytes, item_bytes, full_bytes, longer_bytes, shorter_bytes, no_stack_bytes, one_item_bytes, form_bytes, frame_bytes, frames_bytes}
+use Rattle.class_file.specs.Fronts.{is_type}
 use Rattle.class_spelling.proofs.Texts.{same_text, text_is_itself}
 use Rattle.class_spelling.proofs.Writes.{Writes, write_exact, write_then, write_number2, write_each, write_type_name}
 
@@ -25,7 +26,7 @@ write_type slots (type.Uninitialized at) = write_then (write_exact (u1 8)) (writ
 
 -- ---- what stands behind
 
-type_is_itself : (t : VType) → is_type t t ≡ true
+pub type_is_itself : (t : VType) → is_type t t ≡ true
 type_is_itself type.Top = refl
 type_is_itself type.Integer = refl
 type_is_itself type.Long = refl
@@ -34,7 +35,7 @@ type_is_itself type.UninitializedThis = refl
 type_is_itself (type.Object name) = text_is_itself name
 type_is_itself (type.Uninitialized at) = eq-eqb at at refl
 
-same_type : (t u : VType) → is_type t u ≡ true → t ≡ u
+pub same_type : (t u : VType) → is_type t u ≡ true → t ≡ u
 same_type type.Top type.Top e = refl
 same_type type.Integer type.Integer e = refl
 same_type type.Long type.Long e = refl

@@ -1,84 +1,93 @@
--- What stands behind the front that a list begins with.
-use Rattle.std.proofs.Common.{◌≡◌, ℕ, ◌≤◌, Bool, true, false, cond, List, [], ◌∷◌, length, take, drop, ◌-◌, map, Option, Some, None, refl, sym, ap, ◌∙◌, arith, Bor}
-use Rattle.std.specs.Prelude.{is_some, ◌==◌, ◌&&◌}
-use Rattle.std.proofs.Math.Dec.{eqb-suc-suc, eqb-suc-zero, eqb-zero-suc}
-use Rattle.std.proofs.lemmas.List.{length-map, drop-map, take_rest}
+-- What stands behind the front that a list begins with, by how much two lists have in common.
+use Rattle.std.proofs.Common.{◌≡◌, ℕ, ◌+◌, ◌<◌, ◌≤◌, zero, suc, Bool, true, false, cond, List, [], ◌∷◌, ◌++◌, length, drop, map, Some, None, Bor, refl, sym, ap, subst, ◌∙◌, arith}
+use Rattle.std.proofs.Math.ListN.{drop_of_length-le}
+use Rattle.std.proofs.lemmas.List.{length-drop}
+use Rattle.std.specs.List.{AllByRecursion, flat_map}
 use Rattle.class_file.specs.declared.class.VType.{VType}
 use Rattle.class_file.specs.declared.class.Frame.{Frame}
 use Rattle.class_file.specs.Pools.{Slots}
-use Rattle.class_file.specs.WrittenClass.{behind, is_type, item_bytes, full_bytes, one_item_bytes}
+use Rattle.class_file.specs.Fronts.{is_type, common_front}
+use Rattle.std.proofs.lemmas.Bool.{le-ltb}
+use Rattle.class_file.specs.WrittenClass.{behind, item_bytes, full_bytes, one_item_bytes, longer_bytes, type_bytes}
+use Rattle.class_file.specs.InstrBytes.{u1, u2}
+use Rattle.class_spelling.proofs.WritesFrames.{type_is_itself, same_type}
+use Rattle.class_writer.specs.Fits.{IsSmall}
 
 -- the types that are referred to
 abbrev pub seen : List (Bor VType) → List VType
 seen ks = map (λ (k : Bor VType). k.now) ks
 
-pub begins : (ts us : List VType) → is_some (behind ts us) ≡ true → behind ts us ≡ Some (drop (length ts) us)
-begins [] us h = refl
-begins (t ∷ ts) [] h = absurd cc
-begins (t ∷ ts) (u ∷ us) h = by (is_type t u) h (begins ts us)
+turned_type : (t u : VType) → is_type t u ≡ true → is_type u t ≡ true
+turned_type t u e = subst (λ (v : VType). is_type v t ≡ true) (same_type t u e) (type_is_itself t)
+
+both_ways : (t u : VType) → is_type t u ≡ is_type u t
+both_ways t u = by (is_type t u) (is_type u t) refl refl
   where
-    by : (b : Bool) → is_some (cond b (behind ts us) None) ≡ true → (is_some (behind ts us) ≡ true → behind ts us ≡ Some (drop (length ts) us)) → cond b (behind ts us) None ≡ Some (drop (length ts) us)
-    by true k ih = ih k
-    by false k ih = absurd cc
+    by : (a b : Bool) → is_type t u ≡ a → is_type u t ≡ b → is_type t u ≡ is_type u t
+    by true b e f = e ∙ sym (turned_type t u e)
+    by false true e f = turned_type u t f ∙ sym f
+    by false false e f = e ∙ sym f
 
-pub differs : (ts us : List VType) → is_some (behind ts us) ≡ false → behind ts us ≡ None
-differs ts us h = by (behind ts us) h
+pub common_both_ways : (ts us : List VType) → common_front ts us ≡ common_front us ts
+common_both_ways [] [] = refl
+common_both_ways [] (u ∷ us) = refl
+common_both_ways (t ∷ ts) [] = refl
+common_both_ways (t ∷ ts) (u ∷ us) =
+    ap (λ (b : Bool). cond b (common_front ts us + 1) 0) (both_ways t u) ∙ ap (λ (n : ℕ). cond (is_type u t) (n + 1) 0) (common_both_ways ts us)
+
+pub common_fits : (ts us : List VType) → common_front ts us ≤ length ts
+common_fits [] us = omega arith
+common_fits (t ∷ ts) [] = omega arith
+common_fits (t ∷ ts) (u ∷ us) = by (is_type t u) (common_fits ts us)
   where
-    by : (o : Option (List VType)) → is_some o ≡ false → o ≡ None
-    by None k = refl
-    by (Some more) k = absurd cc
+    by : (b : Bool) → common_front ts us ≤ length ts → cond b (common_front ts us + 1) 0 ≤ length (t ∷ ts)
+    by true le = omega (arith, le)
+    by false le = omega arith
 
-pub no_longer : (ts us : List VType) → is_some (behind ts us) ≡ true → length ts ≤ length us
-no_longer [] us h = omega arith
-no_longer (t ∷ ts) [] h = absurd cc
-no_longer (t ∷ ts) (u ∷ us) h = by (is_type t u) h (no_longer ts us)
+-- a list that is all in common stands in front of the other
+pub all_common : (ts us : List VType) → common_front ts us ≡ length ts → behind ts us ≡ Some (drop (length ts) us)
+all_common [] us e = refl
+all_common (t ∷ ts) [] e = absurd (omega (arith, e))
+all_common (t ∷ ts) (u ∷ us) e = by (is_type t u) e (all_common ts us)
   where
-    by : (b : Bool) → is_some (cond b (behind ts us) None) ≡ true → (is_some (behind ts us) ≡ true → length ts ≤ length us) → length (t ∷ ts) ≤ length (u ∷ us)
-    by true k ih = omega (arith, ih k)
-    by false k ih = absurd cc
+    by : (b : Bool) → cond b (common_front ts us + 1) 0 ≡ length (t ∷ ts) → (common_front ts us ≡ length ts → behind ts us ≡ Some (drop (length ts) us)) → cond b (behind ts us) None ≡ Some (drop (length ts) us)
+    by true k ih = ih (omega (arith, k))
+    by false k ih = absurd (omega (arith, k))
 
--- the same of types that are referred to; the part behind is a slice of the second list
-pub fits : (front whole : List (Bor VType)) → is_some (behind (seen front) (seen whole)) ≡ true → length front ≤ length whole
-fits front whole h =
-    omega (arith, no_longer (seen front) (seen whole) h, length-map front (λ (k : Bor VType). k.now), length-map whole (λ (k : Bor VType). k.now))
+-- and one that is not all in common doesn't
+pub not_all_common : (ts us : List VType) → common_front ts us < length ts → behind ts us ≡ None
+not_all_common [] us lt = absurd (omega (arith, lt))
+not_all_common (t ∷ ts) [] lt = refl
+not_all_common (t ∷ ts) (u ∷ us) lt = by (is_type t u) lt (not_all_common ts us)
+  where
+    by : (b : Bool) → cond b (common_front ts us + 1) 0 < length (t ∷ ts) → (common_front ts us < length ts → behind ts us ≡ None) → cond b (behind ts us) None ≡ None
+    by true lt ih = ih (omega (arith, lt))
+    by false lt ih = refl
 
-pub part : (front whole : List (Bor VType)) → is_some (behind (seen front) (seen whole)) ≡ true → behind (seen front) (seen whole) ≡ Some (seen (take (length whole - length front) (drop (length front) whole)))
-part front whole h =
-    begins (seen front) (seen whole) h
-    ∙ ap (λ (n : ℕ). Some (drop n (seen whole))) (length-map front (λ (k : Bor VType). k.now))
-    ∙ ap Some (drop-map (λ (k : Bor VType). k.now) (length front) whole)
-    ∙ ap (λ (ks : List (Bor VType)). Some (seen ks)) (sym (take_rest whole (length front)))
+pub small_drop : (n : ℕ) (ts : List VType) → AllByRecursion IsSmall ts → AllByRecursion IsSmall (drop n ts)
+small_drop zero ts all = all
+small_drop (suc n) [] all = tt
+small_drop (suc n) (t ∷ ts) all = small_drop n ts all.1
+
+pub too_much_longer : (slots : Slots) (delta : ℕ) (f : Frame) (more : List VType) → 4 ≤ length more → longer_bytes slots delta f more ≡ full_bytes slots delta f
+too_much_longer slots delta f [] le = absurd (omega (arith, le))
+too_much_longer slots delta f (t ∷ ts) le =
+    ap (λ (b : Bool). cond b (u1 (251 + length (t ∷ ts)) ++ u2 delta ++ flat_map (type_bytes slots) (t ∷ ts)) (full_bytes slots delta f)) (le-ltb (length (t ∷ ts)) 4 le)
 
 module _ (slots : Slots) (delta : ℕ) (f : Frame) (item : VType) where
-  abbrev short : List ℕ
-  short = item_bytes slots delta item
+  -- the short form is for a list that is the other one
+  pub short_form : (ts us : List VType) → common_front ts us ≡ length ts → common_front ts us ≡ length us → one_item_bytes slots delta f item (behind ts us) ≡ item_bytes slots delta item
+  short_form ts us all same =
+      ap (one_item_bytes slots delta f item) (all_common ts us all ∙ ap Some (drop_of_length-le us (omega (arith, all, same))))
 
-  abbrev full : List ℕ
-  full = full_bytes slots delta f
+  pub no_front : (ts us : List VType) → common_front ts us < length ts → one_item_bytes slots delta f item (behind ts us) ≡ full_bytes slots delta f
+  no_front ts us lt = ap (one_item_bytes slots delta f item) (not_all_common ts us lt)
 
-  abbrev written : Option (List VType) → List ℕ
-  written o = one_item_bytes slots delta f item o
+  more_behind : (more : List VType) → 0 < length more → one_item_bytes slots delta f item (Some more) ≡ full_bytes slots delta f
+  more_behind [] some = absurd (omega (arith, some))
+  more_behind (t ∷ ts) some = refl
 
-  -- the short form is for a list that begins with the other and is of the same length
-  form : (ts us : List VType) → written (behind ts us) ≡ cond ((length us == length ts) && is_some (behind ts us)) short full
-  form [] [] = refl
-  form [] (u ∷ us) = sym (ap (λ (b : Bool). cond (b && true) short full) (eqb-suc-zero (length us)))
-  form (t ∷ ts) [] = sym (ap (λ (b : Bool). cond (b && false) short full) (eqb-zero-suc (length ts)))
-  form (t ∷ ts) (u ∷ us) =
-      by (is_type t u) (form ts us)
-      ∙ sym (ap (λ (b : Bool). cond (b && is_some (behind (t ∷ ts) (u ∷ us))) short full) (eqb-suc-suc (length us) (length ts)))
-    where
-      neither : (e : Bool) → full ≡ cond (e && false) short full
-      neither true = refl
-      neither false = refl
-
-      by : (b : Bool) → written (behind ts us) ≡ cond ((length us == length ts) && is_some (behind ts us)) short full → written (cond b (behind ts us) None) ≡ cond ((length us == length ts) && is_some (cond b (behind ts us) None)) short full
-      by true ih = ih
-      by false ih = neither (length us == length ts)
-
-  pub one_form : (front whole : List (Bor VType)) → written (behind (seen front) (seen whole)) ≡ cond ((length whole == length front) && is_some (behind (seen front) (seen whole))) short full
-  one_form front whole =
-      let there = is_some (behind (seen front) (seen whole)) in
-      form (seen front) (seen whole)
-      ∙ ap (λ (n : ℕ). cond ((n == length (seen front)) && there) short full) (length-map whole (λ (k : Bor VType). k.now))
-      ∙ ap (λ (n : ℕ). cond ((length whole == n) && there) short full) (length-map front (λ (k : Bor VType). k.now))
+  pub only_front : (ts us : List VType) → common_front ts us ≡ length ts → common_front ts us < length us → one_item_bytes slots delta f item (behind ts us) ≡ full_bytes slots delta f
+  only_front ts us all lt =
+      ap (one_item_bytes slots delta f item) (all_common ts us all)
+      ∙ more_behind (drop (length ts) us) (omega (arith, all, lt, length-drop (length ts) us))

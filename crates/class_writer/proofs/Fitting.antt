@@ -16,26 +16,11 @@ use Rattle.class_file.specs.declared.class.Attribute.{Attribute}
 use Rattle.class_file.specs.declared.instr.Instr.{Instr}
 use Rattle.class_file.specs.InstrBytes.{u2, instr_bytes}
 use Rattle.class_file.specs.ClassBytes.{Each, Table, AttributeIs, Among, code_name, stack_map_table, InstrsAre, CodeAttributesAre, with_frames, without_frames, HandlerIs, receiver, at_start, MethodAttributesAre, with_code, without_code, CodeIs, TypeIs, Before, FrameIs, FormIs, same, one_item, one_item_extended, chop, same_extended, append, full}
-use Rattle.class_file.specs.WrittenClass.{behind, is_type, attribute_bytes, code_bytes, frames_bytes}
+use Rattle.class_file.specs.WrittenClass.{attribute_bytes, code_bytes, frames_bytes}
 use Rattle.class_spelling.proofs.Writes.{write_others}
 use Rattle.class_spelling.proofs.WritesFrames.{write_stack_map}
 use Rattle.class_spelling.proofs.Written.{write_instructions, write_code}
 use Rattle.class_writer.specs.Fits.{IsSmall, AreSmall, FrameFits, IsBehind, HandlerFits}
-
-pub small_behind : (front whole more : List VType) → AllByRecursion IsSmall whole → behind front whole ≡ Some more → AllByRecursion IsSmall more
-small_behind [] us more all e = subst (AllByRecursion IsSmall) (some_same us more e) all
-  where
-    some_same : (xs ys : List VType) → Some xs ≡ Some ys → xs ≡ ys
-    some_same xs ys f = cc
-small_behind (t ∷ ts) [] more all e = absurd (nothing e)
-  where
-    nothing : {ys : List VType} → None ≡ Some ys → ⊥
-    nothing f = cc
-small_behind (t ∷ ts) (u ∷ us) more all e = by (is_type t u) (small_behind ts us more all.1) e
-  where
-    by : (b : Bool) → (behind ts us ≡ Some more → AllByRecursion IsSmall more) → cond b (behind ts us) None ≡ Some more → AllByRecursion IsSmall more
-    by true ih f = ih f
-    by false ih f = absurd (cc)
 
 small_type : (slots : Slots) (t : VType) (bytes : List ℕ) → TypeIs slots t bytes → IsSmall t
 small_type slots type.Top bytes e = tt

@@ -3,3 +3,4 @@ pub mod Slots
 pub mod Fitting
 pub mod Examples
 pub mod Behind
+pub mod Spelled

@@ -13,7 +13,8 @@ use crate::instrs::put_instr;
 use crate::names::Names;
 use crate::numbers::put_u2;
 use crate::start::start_locals;
-use class_file::class::{Attribute, Frame, Handler, Method, VType};
+use class_file::class::{Attribute, Handler, Method, VType};
+use class_file::frames::Frames;
 use class_file::instr::Instr;
 use kc_text::{Memory, Text};
 use shared_list::SharedList;
@@ -70,7 +71,7 @@ fn stack_map(
     alloc: Global,
     names: &Names,
     start: &SharedList<VType>,
-    frames: &[Frame],
+    frames: &Frames,
 ) -> Result<Vec<u8>, Memory>
     requires first { AreFirst names.now }
     requires small { AllByRecursion IsSmall start.now }
@@ -89,7 +90,7 @@ fn put_code_attributes(
     out: &mut Vec<u8>,
     names: &Names,
     start: &SharedList<VType>,
-    frames: &[Frame],
+    frames: &Frames,
     others: &[Attribute],
 ) -> Result<(), Memory>
     requires first { AreFirst names.now }
@@ -97,7 +98,7 @@ fn put_code_attributes(
     requires spelled { (bytes : List ℕ) × CodeAttributesAre (slots_of names.now) (before_of None start.now) frames.now others.now bytes }
     ensures { OnOk result (out.new.items ≡ out.old.items ++ code_attributes_bytes (slots_of names.now) (before_of None start.now) frames.now others.now) }
 {
-    match frames {
+    match frames.as_slice() {
         [] => put_attributes(out, names, others),
         [_, ..] => {
             let body = stack_map(alloc, names, start, frames)?;
@@ -130,7 +131,7 @@ pub fn code_of(
         &mut body,
         names,
         &start,
-        method.frames.as_slice(),
+        &method.frames,
         method.code_others.as_slice(),
     )?;
     Ok(body)

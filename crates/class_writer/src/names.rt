@@ -22,7 +22,7 @@ pub struct Names<'a> {
 }
 
 impl<'a> Names<'a> {
-    /// The names of a pool, in time linear in the pool.
+    /// The names of a pool, in time linear in the pool and in the names of its classes.
     pub fn of(alloc: Global, pool: &'a Pool) -> Result<Names<'a>, Memory>
         requires { length pool.now < 2 ^ 16 }
         ensures first { IfOk result (λ names. AreFirst names) }

@@ -4,6 +4,7 @@ ghost use Rattle.class_writer.specs.Examples.{is_new, main_pool, main_method, ma
 
 use super::*;
 use class_file::class::{ClassFile, Method};
+use class_file::frames::Frames;
 use class_file::instr::Instr;
 use class_file::pool::{Entry, Pool, PoolFull};
 use kc_text::{Fail, Memory, Text};
@@ -49,7 +50,7 @@ fn method(alloc: Global) -> Result<Method, Memory>
         max_locals: 0,
         code,
         handlers: Items::new(alloc),
-        frames: Items::new(alloc),
+        frames: Frames::new(alloc),
         code_others: Items::new(alloc),
         others: Items::new(alloc),
     })

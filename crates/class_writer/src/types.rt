@@ -1,7 +1,7 @@
 //! Verification types as bytes (Java Virtual Machine Specification SE 8, 4.7.4).
-ghost use Rattle.std.specs.Prelude.{◌≡◌, ◌++◌, ◌<◌, ◌^◌, ◌==◌, ◌&&◌, OnOk, length, map, is_some};
+ghost use Rattle.std.specs.Prelude.{◌≡◌, ◌++◌, OnOk, map};
 ghost use Rattle.std.specs.List.{flat_map, AllByRecursion};
-ghost use Rattle.class_file.specs.WrittenClass.{type_bytes, table_bytes, is_type, behind};
+ghost use Rattle.class_file.specs.WrittenClass.{type_bytes, table_bytes};
 ghost use Rattle.class_writer.specs.Indexes.{AreFirst, slots_of};
 ghost use Rattle.class_writer.specs.Fits.{IsSmall, AreSmall};
 
@@ -75,45 +75,4 @@ pub fn put_locals(out: &mut Vec<u8>, names: &Names, locals: &[&VType]) -> Result
 {
     put_u2(out, locals.len() as u16)?;
     put_each_local(out, names, locals)
-}
-
-fn is_type(kept: &VType, other: &VType) -> bool
-    ensures { result ≡ is_type kept.now other.now }
-{
-    match (kept, other) {
-        (VType::Top, VType::Top) => true,
-        (VType::Integer, VType::Integer) => true,
-        (VType::Long, VType::Long) => true,
-        (VType::Null, VType::Null) => true,
-        (VType::UninitializedThis, VType::UninitializedThis) => true,
-        (VType::Object(name), VType::Object(wanted)) => name == wanted,
-        (VType::Uninitialized(at), VType::Uninitialized(place)) => *at == *place,
-        _ => false,
-    }
-}
-
-/// Do the types of the second list stand at the front of the first?
-pub fn begins_with(whole: &[&VType], front: &[&VType]) -> bool
-    ensures { result ≡ is_some (behind (map (λ kept. kept.now) front.now) (map (λ kept. kept.now) whole.now)) }
-{
-    let mut rest = whole;
-    for kept in front {
-        match rest {
-            [] => return false,
-            [first, others @ ..] => {
-                if !is_type(kept, first) {
-                    return false;
-                }
-                rest = others;
-            }
-        }
-    }
-    true
-}
-
-/// Are the types of both lists the same?
-pub fn are_same(whole: &[&VType], front: &[&VType]) -> bool
-    ensures { result ≡ ((length whole.now == length front.now) && is_some (behind (map (λ kept. kept.now) front.now) (map (λ kept. kept.now) whole.now))) }
-{
-    whole.len() == front.len() && begins_with(whole, front)
 }

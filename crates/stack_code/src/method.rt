@@ -20,6 +20,7 @@ use crate::measures::{discard_size, kept, measure_of, plus};
 use crate::operations::{CodeBuffer, discard, leave};
 use crate::walk::walk_discarded;
 use class_file::class::{Frame, Method};
+use class_file::frames::Frames;
 use class_file::instr::Instr;
 use class_file::pool::Pool;
 use kc_core::tree::{Core, Function};
@@ -135,7 +136,7 @@ pub fn emit_function(
         max_locals: locals as u16,
         code: Items::from_vec(code.instrs),
         handlers: Items::new(alloc),
-        frames: Items::from_vec(frames),
+        frames: Frames::from_vec(alloc, frames)?,
         code_others: Items::new(alloc),
         others: Items::new(alloc),
     })

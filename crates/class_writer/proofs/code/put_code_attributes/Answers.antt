@@ -1,4 +1,4 @@
-use Rattle.std.proofs.Common.{◌<◌, None, length, arith}
+use Rattle.std.proofs.Common.{◌<◌, None, length, ap, arith}
 use Rattle.class_writer.specs.Indexes.{slots_of}
 use Rattle.class_writer.specs.Fits.{before_of}
 use Rattle.class_writer.proofs.Fitting.{code_others, stack_map_short}
@@ -10,7 +10,7 @@ put_attributes-requires-clause-spelled c =
 
 pub put_named-requires-clause-short : goal.put_named-requires-clause-short
 put_named-requires-clause-short c =
-    let some : 0 < length c.args.frames.now = omega (arith, c.in-len1-up.len_at_least) in
+    let some : 0 < length c.args.frames.now = omega (arith, c.in-len1-up.len_at_least, ap length c.as_slice.ensures) in
     rw (c.deref.ensures.value, c.in_ok-body-in-len1-up.ensures)
     (stack_map_short (slots_of c.args.names.now) (before_of None c.args.start.now) c.args.frames.now c.args.others.now c.requires.spelled.0 some c.requires.spelled.1)
 

@@ -1,39 +1,42 @@
-use Rattle.std.proofs.Common.{◌≡◌, ◌++◌, List, OnOk, Option, sym, ap, ◌∙◌, subst}
-use Rattle.class_file.specs.declared.class.VType.{VType}
-use Rattle.class_file.specs.WrittenClass.{behind, shorter_bytes, no_stack_bytes}
+use Rattle.std.proofs.Common.{◌≡◌, length, drop, arith, sym, ◌∙◌}
+use Rattle.std.proofs.lemmas.List.{length-drop}
 use Rattle.class_writer.specs.Indexes.{slots_of}
-use Rattle.class_writer.proofs.Fitting.{small_behind}
-use Rattle.class_writer.proofs.Behind.{seen, fits, part, differs}
+use Rattle.class_writer.proofs.Behind.{common_fits, common_both_ways, all_common, not_all_common}
 use Rattle.class_writer.proofs.frames.put_no_stack.Goals as goal
 
-pub slice_bounds-more-count : goal.slice_bounds-more-count
-slice_bounds-more-count c = fits c.args.before.now c.args.locals.now (sym c.begins_with.ensures ∙ c.if-begins_with.true)
+pub put_longer-requires-clause-within : goal.put_longer-requires-clause-within
+put_longer-requires-clause-within c =
+    let before = c.args.before.now in
+    let locals = c.args.frame.now.locals in
+    omega (arith, c.requires.front, common_both_ways before locals, common_fits locals before)
 
-pub slice_bounds-more-start : goal.slice_bounds-more-start
-slice_bounds-more-start c = fits c.args.before.now c.args.locals.now (sym c.begins_with.ensures ∙ c.if-begins_with.true)
+pub returns-then-front-len : goal.returns-then-front-len
+returns-then-front-len c =
+    let before = c.args.before.now in
+    let locals = c.args.frame.now.locals in
+    let all : c.args.front ≡ length before = omega (arith, c.if-front-len.true, c.len.ensures) in
+    rw (all_common before locals (sym c.requires.front ∙ all), sym all) c.put_longer.ensures
 
-pub put_longer-requires-clause-small : goal.put_longer-requires-clause-small
-put_longer-requires-clause-small c =
-    small_behind (seen c.args.before.now) (seen c.args.locals.now) _ (rw c.requires.locals (c.requires.fits.0.1)) (part c.args.before.now c.args.locals.now (sym c.begins_with.ensures ∙ c.if-begins_with.true))
+pub overflow_sub-len : goal.overflow_sub-len
+overflow_sub-len c = omega (arith, c.requires.front, common_fits c.args.before.now c.args.frame.now.locals, c.len-then-front-len-2.ensures)
 
-pub returns-then-begins_with : goal.returns-then-begins_with
-returns-then-begins_with c =
-    let e = ap (behind (seen c.args.before.now)) (sym c.requires.locals) ∙ part c.args.before.now c.args.locals.now (sym c.begins_with.ensures ∙ c.if-begins_with.true) in
-    rw e c.put_longer.ensures
-
-pub slice_bounds-gone-count : goal.slice_bounds-gone-count
-slice_bounds-gone-count c = fits c.args.locals.now c.args.before.now (sym c.begins_with-2.ensures ∙ c.if-begins_with-2.true)
-
-pub slice_bounds-gone-start : goal.slice_bounds-gone-start
-slice_bounds-gone-start c = fits c.args.locals.now c.args.before.now (sym c.begins_with-2.ensures ∙ c.if-begins_with-2.true)
-
-pub returns-then-begins_with-2 : goal.returns-then-begins_with-2
-returns-then-begins_with-2 c =
+pub returns-then-front-len-2 : goal.returns-then-front-len-2
+returns-then-front-len-2 c =
     let slots = slots_of c.args.names.now in
-    let before = seen c.args.before.now in
-    let new = c.put_shorter.new.out.items in
-    let old = c.args.out.now.items in
-    let none = ap (behind before) (sym c.requires.locals) ∙ differs before (seen c.args.locals.now) (sym c.begins_with.ensures ∙ c.if-begins_with.false) in
-    let gone = ap (λ (ts : List VType). behind ts before) (sym c.requires.locals) ∙ part c.args.locals.now c.args.before.now (sym c.begins_with-2.ensures ∙ c.if-begins_with-2.true) in
-    subst (λ (o : Option (List VType)). OnOk c.put_shorter.result (new ≡ old ++ no_stack_bytes slots c.args.delta c.args.frame.now before o)) (sym none)
-    (subst (λ (o : Option (List VType)). OnOk c.put_shorter.result (new ≡ old ++ shorter_bytes slots c.args.delta c.args.frame.now o)) (sym gone) c.put_shorter.ensures)
+    let before = c.args.before.now in
+    let locals = c.args.frame.now.locals in
+    let fits = common_fits before locals in
+    let none = not_all_common before locals (omega (arith, fits, c.requires.front, c.if-front-len.false, c.len.ensures)) in
+    let gone = all_common locals before (omega (arith, common_both_ways before locals, c.requires.front, c.if-front-len-2.true, c.len-2.ensures)) in
+    let short = c.put_shorter.ensures (drop (length locals) before) (omega (arith, length-drop (length locals) before, c.if-front-len-2.true, c.len-2.ensures, c.len-then-front-len-2.ensures)) in
+    rw (none, gone) short
+
+pub returns : goal.returns
+returns c =
+    let before = c.args.before.now in
+    let locals = c.args.frame.now.locals in
+    let fits = common_fits before locals in
+    let back = common_fits locals before in
+    let none = not_all_common before locals (omega (arith, fits, c.requires.front, c.if-front-len.false, c.len.ensures)) in
+    let other = not_all_common locals before (omega (arith, back, common_both_ways before locals, c.requires.front, c.if-front-len-2.false, c.len-2.ensures)) in
+    rw (none, other) c.put_full.ensures

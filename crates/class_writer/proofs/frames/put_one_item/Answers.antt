@@ -1,30 +1,24 @@
-use Rattle.std.proofs.Common.{List, cond, Bool, sym, ap, ◌∙◌}
-use Rattle.class_file.specs.declared.class.VType.{VType}
-use Rattle.class_file.specs.WrittenClass.{behind, item_bytes, full_bytes, one_item_bytes}
+use Rattle.std.proofs.Common.{◌≡◌, length, arith}
+use Rattle.class_file.specs.Fronts.{common_front}
 use Rattle.class_writer.specs.Indexes.{slots_of}
-use Rattle.class_writer.proofs.Behind.{seen, one_form}
+use Rattle.class_writer.proofs.Behind.{common_fits, common_both_ways, short_form, no_front, only_front}
 use Rattle.class_writer.proofs.frames.put_one_item.Goals as goal
 
-pub returns-then-are_same : goal.returns-then-are_same
-returns-then-are_same c =
-    let slots = slots_of c.args.names.now in
-    let written = λ (locals : List VType). one_item_bytes slots c.args.delta c.args.frame.now c.args.item.now (behind (seen c.args.before.now) locals) in
-    let short = item_bytes slots c.args.delta c.args.item.now in
-    let full = full_bytes slots c.args.delta c.args.frame.now in
-    rw
-    (ap written (sym c.requires.locals)
-    ∙ one_form slots c.args.delta c.args.frame.now c.args.item.now c.args.before.now c.args.locals.now
-    ∙ ap (λ (b : Bool). cond b short full) (sym c.are_same.ensures ∙ c.if-are_same.true))
-    c.put_item.ensures
+pub returns-then-front-len : goal.returns-then-front-len
+returns-then-front-len c =
+    rw (no_front (slots_of c.args.names.now) c.args.delta c.args.frame.now c.args.item.now c.args.before.now c.args.frame.now.locals (omega (arith, c.requires.front, c.if-front-len.true, c.len.ensures))) c.put_full.ensures
+
+pub returns-then-front-len-2 : goal.returns-then-front-len-2
+returns-then-front-len-2 c =
+    let before = c.args.before.now in
+    let locals = c.args.frame.now.locals in
+    let all : common_front before locals ≡ length before = omega (arith, common_fits before locals, c.requires.front, c.if-front-len.false, c.len.ensures) in
+    rw (only_front (slots_of c.args.names.now) c.args.delta c.args.frame.now c.args.item.now before locals all (omega (arith, c.requires.front, c.if-front-len-2.true, c.len-2.ensures))) c.put_full-then-front-len-2.ensures
 
 pub returns : goal.returns
 returns c =
-    let slots = slots_of c.args.names.now in
-    let written = λ (locals : List VType). one_item_bytes slots c.args.delta c.args.frame.now c.args.item.now (behind (seen c.args.before.now) locals) in
-    let short = item_bytes slots c.args.delta c.args.item.now in
-    let full = full_bytes slots c.args.delta c.args.frame.now in
-    rw
-    (ap written (sym c.requires.locals)
-    ∙ one_form slots c.args.delta c.args.frame.now c.args.item.now c.args.before.now c.args.locals.now
-    ∙ ap (λ (b : Bool). cond b short full) (sym c.are_same.ensures ∙ c.if-are_same.false))
-    c.put_full.ensures
+    let before = c.args.before.now in
+    let locals = c.args.frame.now.locals in
+    let all : common_front before locals ≡ length before = omega (arith, common_fits before locals, c.requires.front, c.if-front-len.false, c.len.ensures) in
+    let same : common_front before locals ≡ length locals = omega (arith, common_both_ways before locals, common_fits locals before, c.requires.front, c.if-front-len-2.false, c.len-2.ensures) in
+    rw (short_form (slots_of c.args.names.now) c.args.delta c.args.frame.now c.args.item.now before locals all same) c.put_item.ensures
