@@ -1,15 +1,15 @@
 // Where the flow goes on to.
 ghost use Rattle.std.specs.Prelude.{◌≡◌, IfOk, Some, None};
-ghost use Rattle.class_file.specs.Verification.{jump_of, goes_on, frame_fault, jump_frame_fault, next_frame_fault, target_fault, fall_fault};
+ghost use Rattle.class_file.specs.Verification.{jump_of, goes_on, fits_given, given_at, frame_fault, jump_frame_fault, next_frame_fault, target_fault, fall_fault};
 ghost use Rattle.verifier_types.specs.Frames.{shown};
 
-use crate::frames::given;
+use crate::given::flows_into;
 use crate::tabled::TabledMethod;
 use class_file::row::Row;
 use class_file::verify_code::VerifyCode;
 use kc_text::Memory;
 use std::alloc::Global;
-use verifier_types::{Known, NamedSet, is_assignable};
+use verifier_types::{Known, NamedSet};
 
 pub fn jump_of(row: Row) -> Option<usize>
     ensures { result ≡ jump_of row }
@@ -36,6 +36,22 @@ pub fn goes_on(row: Row) -> bool
     }
 }
 
+// May what is known flow into the frame that is given for a place, if one is?
+fn fits_given(
+    alloc: Global,
+    set: &NamedSet,
+    method: &TabledMethod,
+    after: &Known,
+    to: usize,
+) -> Result<bool, Memory>
+    ensures { IfOk result (λ fits. fits ≡ fits_given set.now (shown after.now) (given_at method.now to)) }
+{
+    match method.frame_at(to) {
+        None => Ok(true),
+        Some(frame) => Ok(flows_into(alloc, set, after, method.max_locals(), frame)?),
+    }
+}
+
 /// `WrongFrame` where the flow leads to an instruction with a given frame that it is not assignable to.
 pub fn frame_fault(
     alloc: Global,
@@ -49,15 +65,10 @@ pub fn frame_fault(
     if !method.starts(to) {
         return Ok(None);
     }
-    match given(alloc, method, to)? {
-        None => Ok(None),
-        Some(frame) => {
-            if is_assignable(set, after, &frame) {
-                Ok(None)
-            } else {
-                Ok(Some(VerifyCode::WrongFrame))
-            }
-        }
+    if fits_given(alloc, set, method, after, to)? {
+        Ok(None)
+    } else {
+        Ok(Some(VerifyCode::WrongFrame))
     }
 }
 

@@ -85,10 +85,9 @@ pub fn given<'a>(
 ) -> Result<Option<Known<'a>>, Memory>
     ensures { IfOk result (λ known. option_map shown known ≡ given_at method.now pc) }
 {
-    let max_locals = method.as_method().max_locals as usize;
     match method.frame_at(pc) {
         None => Ok(None),
-        Some(frame) => Ok(Some(known_of(alloc, max_locals, frame)?)),
+        Some(frame) => Ok(Some(known_of(alloc, method.max_locals(), frame)?)),
     }
 }
 

@@ -4,16 +4,15 @@ ghost use Rattle.std.specs.Option.{option_copied, option_map};
 ghost use Rattle.class_file.specs.Rows.{length_of};
 ghost use Rattle.class_file.specs.Verification.{starts, covers, caught, is_throwable, is_good_row, is_caught, all_rows, all_caught, code_length, fits_handler, given_at, rows_fault};
 ghost use Rattle.verifier_types.specs.Frames.{shown};
+ghost use Rattle.verifier.specs.Sweeping.{HasCovering};
 
-use crate::frames::given;
+use crate::given::is_thrown_into;
 use crate::tabled::TabledMethod;
 use class_file::class::{ClassFile, Handler};
 use class_file::verify_code::VerifyCode;
 use kc_text::{Memory, Text};
 use std::alloc::Global;
-use verifier_types::{
-    Known, NamedSet, VerificationType, assignable, is_thrown_assignable, name_at,
-};
+use verifier_types::{Known, NamedSet, VerificationType, assignable, name_at};
 
 static THROWABLE: [u16; 19] = [
     106, 97, 118, 97, 47, 108, 97, 110, 103, 47, 84, 104, 114, 111, 119, 97, 98, 108, 101,
@@ -106,6 +105,26 @@ pub fn rows_fault(
     }
 }
 
+// Does what is known, with an object of a class on the stack alone, fit the frame that is given for a handler's place?
+fn fits_handler(
+    alloc: Global,
+    set: &NamedSet,
+    method: &TabledMethod,
+    known: &Known,
+    name: Option<&[u16]>,
+    at: usize,
+) -> Result<bool, Memory>
+    ensures { IfOk result (λ fits. fits ≡ fits_handler set.now (shown known.now) (option_copied name.entry) (given_at method.now at)) }
+{
+    let Some(name) = name else {
+        return Ok(true);
+    };
+    match method.frame_at(at) {
+        None => Ok(true),
+        Some(frame) => Ok(is_thrown_into(alloc, set, known, name, method.max_locals(), frame)?),
+    }
+}
+
 fn is_caught(
     alloc: Global,
     set: &NamedSet,
@@ -120,27 +139,31 @@ fn is_caught(
     if !covers(handler, pc) {
         return Ok(true);
     }
-    let Some(name) = caught(class, handler) else {
-        return Ok(true);
-    };
-    match given(alloc, method, handler.at)? {
-        None => Ok(true),
-        Some(frame) => is_thrown_assignable(alloc, set, known, name, &frame),
-    }
+    fits_handler(
+        alloc,
+        set,
+        method,
+        known,
+        caught(class, handler),
+        handler.at,
+    )
 }
 
-/// Is what is known before an instruction assignable to the frames of the handlers that it may be thrown to?
+/// Is what is known before an instruction assignable to the frames of the handlers that it may be thrown to? The rows are those that
+/// cover it.
 pub fn all_caught(
     alloc: Global,
     set: &NamedSet,
     class: &ClassFile,
     method: &TabledMethod,
+    rows: &[Handler],
     pc: usize,
     known: &Known,
 ) -> Result<bool, Memory>
+    requires covering { HasCovering method.now.handlers pc rows.now }
     ensures { IfOk result (λ are. are ≡ all_caught set.now class.now method.now pc (shown known.now) method.now.handlers) }
 {
-    for handler in method.as_method().handlers.as_slice() {
+    for handler in rows {
         if !is_caught(alloc, set, class, method, pc, known, handler)? {
             return Ok(false);
         }

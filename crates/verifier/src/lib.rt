@@ -3,10 +3,12 @@
 
 mod flow;
 mod frames;
+mod given;
 mod handlers;
 mod loading;
 mod lot;
 mod scan;
+mod sweep;
 mod tabled;
 mod tables;
 #[cfg(test)]

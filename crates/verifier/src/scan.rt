@@ -7,6 +7,7 @@ ghost use Rattle.class_file.specs.Verification.{flow_fault, start_fault, enterin
 ghost use Rattle.verifier_types.specs.Frames.{shown};
 ghost use Rattle.verifier_types.specs.Calls.{call_seen};
 ghost use Rattle.class_file.specs.Lots.{in_first_lot};
+ghost use Rattle.verifier.specs.Sweeping.{HasCovering};
 ghost use Rattle.verifier.specs.Turns.{turn_of};
 ghost use Rattle.verifier.specs.Answers.{InLot, place_seen};
 
@@ -15,8 +16,9 @@ use crate::flow::{
 };
 use crate::frames::{first_types, given};
 use crate::handlers::{all_caught, rows_fault};
+use crate::sweep::HandlerSweep;
 use crate::tabled::TabledMethod;
-use class_file::class::{ClassFile, Method};
+use class_file::class::{ClassFile, Handler, Method};
 use class_file::instr::Instr;
 use class_file::row::Row;
 use class_file::table::{length_of, row_of};
@@ -116,11 +118,13 @@ fn one_instruction<'a>(
     class: &'a ClassFile,
     method: &TabledMethod<'a>,
     call: &Call<'a>,
+    rows: &[Handler],
     pc: usize,
     instr: &Instr,
     entering: Option<Known<'a>>,
 ) -> Result<Turn<'a>, Memory>
     requires small { pc < 2 ^ 32 }
+    requires covering { HasCovering method.now.handlers pc rows.now }
     requires call { call_seen call.now ≡ described method.now.descriptor }
     requires lot { InLot instr.now }
     ensures { IfOk result (λ done. turn_of set.now class.now method.now pc instr.now (option_map shown entering.entry) done) }
@@ -131,7 +135,7 @@ fn one_instruction<'a>(
     if let Some(code) = start_fault(alloc, set, class, method, call, pc)? {
         return Ok(Turn::Fails(code));
     }
-    let is_safe = all_caught(alloc, set, class, method, pc, &known)?;
+    let is_safe = all_caught(alloc, set, class, method, rows, pc, &known)?;
     let row = row_of(pc, instr);
     let next = pc + length_of(instr);
     if let Some(code) = step(
@@ -168,9 +172,12 @@ fn scan<'a>(
 {
     let mut pc = 0;
     let mut flow = Some(first);
+    let mut sweep = HandlerSweep::new(alloc, method.as_method().handlers.as_slice())?;
     for instr in code {
+        sweep.advance(pc)?;
         let known = entering(alloc, method, pc, flow)?;
-        match one_instruction(alloc, set, class, method, call, pc, instr, known)? {
+        let rows = sweep.rows();
+        match one_instruction(alloc, set, class, method, call, rows, pc, instr, known)? {
             Turn::Fails(code) => return Ok(Some(Place { at: pc, code })),
             Turn::Flows(next) => flow = next,
         }

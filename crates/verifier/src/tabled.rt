@@ -59,6 +59,13 @@ impl<'a> TabledMethod<'a> {
         self.method
     }
 
+    /// How many places the local variables take.
+    pub fn max_locals(&self) -> usize
+        ensures { result ≡ self.now.max_locals }
+    {
+        self.method.max_locals as usize
+    }
+
     /// How many bytes the code has.
     pub fn code_length(&self) -> usize
         ensures { result ≡ code_length self.now.code }

@@ -1,5 +1,6 @@
 use crate::{is_first_lot, verify};
 use class_file::class::{ClassFile, Frame, Handler, Method, Set, VType};
+use class_file::frames::Frames;
 use class_file::instr::Instr;
 use class_file::pool::{Entry, Pool};
 use class_file::verify_code::{VerifyCode, VerifyFault};
@@ -74,15 +75,18 @@ fn stack_types(alloc: Global, stack: Lying) -> Result<Items<VType>, Memory> {
     }
 }
 
-fn frames_of(alloc: Global, given: &[Given]) -> Result<Items<Frame>, Memory> {
-    let mut frames = Items::new(alloc);
+fn frames_of(alloc: Global, given: &[Given]) -> Result<Frames, Memory> {
+    let mut frames = Frames::new(alloc);
     for frame in given {
-        frames.push(Frame {
-            at: frame.at,
-            locals: int_locals(alloc, frame.locals)?,
-            stack: stack_types(alloc, frame.stack)?,
-            unset: false,
-        })?;
+        frames.push(
+            alloc,
+            Frame {
+                at: frame.at,
+                locals: int_locals(alloc, frame.locals)?,
+                stack: stack_types(alloc, frame.stack)?,
+                unset: false,
+            },
+        )?;
     }
     Ok(frames)
 }
@@ -425,6 +429,69 @@ fn tells_the_first_fault(rt: HostRuntime) -> Result<(), Failed> {
     ];
     for (n, row) in table.iter().enumerate() {
         assert_eq!(rt; is_told(rt.alloc(), row)?, true, "of row {n}");
+    }
+    Ok(())
+}
+
+// Two rows, one within the other: the inner one's handler wants an Int, which is there before the instructions at 2 and 3 alone.
+#[test]
+fn tells_nested_rows(rt: HostRuntime) -> Result<(), Failed> {
+    let code = [
+        Instr::Iconst0,
+        Instr::Istore0,
+        Instr::Lconst0,
+        Instr::Lstore0,
+        Instr::Return,
+        Instr::Pop,
+        Instr::Return,
+        Instr::Pop,
+        Instr::Return,
+    ];
+    let frames = [
+        Given {
+            at: 5,
+            locals: 1,
+            stack: Lying::Thrown,
+        },
+        Given {
+            at: 7,
+            locals: 0,
+            stack: Lying::Thrown,
+        },
+    ];
+    let outer = Handler {
+        start: 0,
+        end: 5,
+        at: 7,
+        catch_type: 0,
+    };
+    let table = [
+        (2, 4, None),
+        (3, 4, None),
+        (1, 4, Some((1, VerifyCode::BadHandler))),
+        (2, 5, Some((4, VerifyCode::BadHandler))),
+    ];
+    for (n, (start, end, fault)) in table.iter().enumerate() {
+        let inner = Handler {
+            start: *start,
+            end: *end,
+            at: 5,
+            catch_type: 0,
+        };
+        let inner_first = [inner, outer];
+        let outer_first = [outer, inner];
+        let first = case("f", "()V", 9, &code, &inner_first, &frames, *fault);
+        let last = case("f", "()V", 9, &code, &outer_first, &frames, *fault);
+        assert_eq!(rt;
+            is_told(rt.alloc(), &first)?,
+            true,
+            "of row {n}, the inner one first"
+        );
+        assert_eq!(rt;
+            is_told(rt.alloc(), &last)?,
+            true,
+            "of row {n}, the inner one last"
+        );
     }
     Ok(())
 }

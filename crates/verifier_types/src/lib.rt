@@ -18,7 +18,7 @@ mod statics;
 mod types;
 mod use_types;
 
-pub use assign::{assignable, is_assignable, is_thrown_assignable};
+pub use assign::assignable;
 pub use calls::{described, name_at};
 pub use descriptors::Call;
 pub use known::Known;

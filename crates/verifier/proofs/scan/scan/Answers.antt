@@ -5,6 +5,7 @@ use Rattle.class_file.specs.declared.instr.Instr.TheVariants.{Nop}
 use Rattle.class_file.specs.Verification.{scan}
 use Rattle.verifier_types.specs.Frames.{shown}
 use Rattle.verifier.proofs.Loop.{fails, flows, cut, over}
+use Rattle.verifier.proofs.Sweeps.{swept_on}
 use Rattle.verifier.proofs.scan.scan.Goals as goal
 
 pub returns-in-Fails : goal.returns-in-Fails
@@ -34,6 +35,7 @@ loop-instr-preserved c =
     let step = flows set class m pc (get_or code k Nop) (drop (k + 1) code) flow known c.in-Flows.next c.in_ok-known.ensures (rw c.in-Flows.is at c.in_ok-code.ensures) in
     record {
       short = omega (arith, c.length_of-pc.ensures.small, c.loop-instr.invariant.short);
+      swept = swept_on m.handlers pc (pc + c.length_of-pc.result) c.advance.new.self (omega arith) (c.in_ok-advance.ensures m.handlers pc (omega arith) c.loop-instr.invariant.swept).swept;
       same = ap (λ (n : ℕ). scan set class m (drop (k + 1) code) (pc + n) next) c.length_of-pc.ensures.exact ∙ sym step
           ∙ ap (λ (is : List Instr). scan set class m is pc flow) (sym (cut code k c.loop-instr-test.true)) ∙ c.loop-instr.invariant.same;
     }
