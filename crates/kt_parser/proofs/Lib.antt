@@ -5,6 +5,11 @@ pub mod Extents
 pub mod SingleTokens
 pub mod Progress
 pub mod TypeRows
+pub mod ListRows
 pub mod NameRows
 pub mod OperandRows
 pub mod ArrowRows
+pub mod ArgumentRows
+pub mod LoneNames
+pub mod SignRows
+pub mod CastRows

@@ -1,6 +1,6 @@
 -- The steps of the functions that read declared names.
 use Rattle.std.proofs.Common.{◌≡◌, ℕ, ◌≤◌, true, false, List, [], ◌∷◌, ◌++◌, length, drop, Result, Ok, Err, Option, Some, None, refl, sym, ap, ◌∙◌, append_assoc, append-nil}
-use Rattle.grammars.specs.Grammar.{next, nothing, row, both, choose, none, leaf, node, pair, left, right, first, test, d_row, d_right, d_nothing, Productive}
+use Rattle.grammars.specs.Grammar.{row, none, leaf, node, pair, left, right, first, test, d_row, d_right, d_nothing, Productive}
 use Rattle.kc_text.specs.declared.errors.Fail.{Fail}
 use Rattle.kc_tree.specs.declared.expr.LocalName.{LocalName}
 use Rattle.kc_tree.specs.declared.types.Word.{Word}
@@ -14,13 +14,14 @@ use Rattle.kt_parser.specs.Rows.{grammar, op}
 use Rattle.kt_parser.specs.Tokens.{is_op, is_name}
 use Rattle.kt_parser.specs.TypesBuilt as types_built
 use Rattle.kt_parser.specs.TypesBuilt.{word_of}
+use Rattle.kt_parser.proofs.ListRows.{IsList, no_element, last_element, element_and_more, adds_none, adds_last, adds_more}
 use Rattle.kt_parser.proofs.Steps.{standing, read_one, read_both, read_row, read_first, read_second, read_nothing, fails_row, fails_left, fails_after, fails_second}
 
 pub has_no_type : Productive grammar rows.colon_type
 has_no_type = ([], right none, d_right d_nothing)
 
-pub has_no_more : Productive grammar (choose (next (is_op operator.Comma)) (both (op operator.Comma) (row rows.names)) nothing)
-has_no_more = ([], right none, d_right d_nothing)
+pub names_list : IsList rows.names rows.typed_name is_name built.typed_name_of built.names_of
+names_list = record { rule = refl; none_is = refl; last_is = λ c. refl; more_is = λ c t d. refl }
 
 pub has_bare_end : Productive grammar (row rows.bare_names)
 has_bare_end = ([], node (right none), d_row (d_right d_nothing))
@@ -47,8 +48,8 @@ pub names_turn : {ts : List Token} {at mid end : ℕ} (ns ms : List LocalName) �
     → Parses (row rows.names) (λ c. ms ++ built.names_of c) ts end r → Parses (row rows.names) (λ c. ns ++ built.names_of c) ts at r
 names_turn ns ms h p o (Ok k) q = record {
   tree = node (left (pair p.tree (left (pair (leaf o.token) q.tree))));
-  read = read_row (read_first h (read_both p.read (read_first (standing o) (read_both (read_one o) q.read))));
-  builds = q.builds ∙ ap (λ m. m ++ built.names_of q.tree) p.builds ∙ append_assoc ns (built.typed_name_of p.tree) (built.names_of q.tree);
+  read = element_and_more names_list h p.read o q.read;
+  builds = adds_more names_list ns ms k.0 p.tree (leaf o.token) q.tree p.builds q.builds;
 }
 names_turn ns ms h p o (Err e) q = fails_row (fails_left h (fails_second p.read (fails_left (standing o) (fails_after o q))))
 
@@ -56,12 +57,12 @@ pub last_name : {ts : List Token} {at end : ℕ} (ns ms : List LocalName) → te
     → test (is_op operator.Comma) (first (drop end ts)) ≡ false → Parsed (row rows.names) (λ c. ns ++ built.names_of c) ts at end ms
 last_name ns ms h p k = record {
   tree = node (left (pair p.tree (right none)));
-  read = read_row (read_first h (read_both p.read (read_second k (read_nothing p.read.within))));
-  builds = p.builds;
+  read = last_element names_list h p.read k;
+  builds = adds_last names_list ns ms p.tree p.builds;
 }
 
 pub names_end : {ts : List Token} {at : ℕ} (ns : List LocalName) → at ≤ length ts → test is_name (first (drop at ts)) ≡ false → Parsed (row rows.names) (λ c. ns ++ built.names_of c) ts at at ns
-names_end ns w h = record { tree = node (right none); read = read_row (read_second h (read_nothing w)); builds = sym (append-nil ns) }
+names_end ns w h = record { tree = node (right none); read = no_element names_list w h; builds = adds_none names_list ns }
 
 pub bare_turn : {ts : List Token} {at mid end : ℕ} {w : Word} (ns ms : List LocalName) → Taken (is_op operator.Comma) ts at mid → test is_name (first (drop mid ts)) ≡ true → NameTaken ts mid end w
     → ms ≡ ns ++ record { name = w; ty = None } ∷ [] → (r : Result (List LocalName × ℕ) (Fail ℕ))

@@ -3,7 +3,7 @@ use Rattle.std.proofs.Common.{◌≡◌, ℕ, zero, suc, ◌+◌, ◌≤◌, max
 use Rattle.grammars.proofs.Stacks.{all_of}
 use Rattle.grammars.specs.Automata.{goes}
 use Rattle.grammars.specs.Tables.{is_empty}
-use Rattle.grammars.specs.Grammar.{next, Part, nothing, row, both, choose, Cst, none, node, pair, left, right, first, test, d_nothing, d_right, Productive}
+use Rattle.grammars.specs.Grammar.{next, Part, nothing, row, both, choose, Cst, none, node, pair, left, right, first, test, d_nothing, d_row, d_right, Productive}
 use Rattle.kc_text.specs.declared.errors.Fail.{Fail}
 use Rattle.kc_tree.specs.declared.fault.Span.{Span}
 use Rattle.kc_tree.specs.declared.types.Word.{Word}
@@ -29,8 +29,8 @@ use Rattle.kt_parser.proofs.Advances.{behind_near, refused_wider, refused_left, 
 use Rattle.kt_parser.proofs.Completed.{All, Completes, scanned}
 use Rattle.kt_parser.proofs.Extents.{between_is, placed}
 use Rattle.kt_parser.proofs.Progress.{empty, goes_on}
-use Rattle.kt_parser.proofs.Steps.{BegunAt, wider, read_row, read_both, read_first, read_second, read_left, read_instead, read_nothing}
-use Rattle.kt_parser.proofs.TypeRows.{stretch, named_alike}
+use Rattle.kt_parser.proofs.Steps.{BegunAt, wider, has_both, read_row, read_both, read_first, read_second, read_left, read_instead, read_nothing}
+use Rattle.kt_parser.proofs.TypeRows.{stretch, named_alike, has_dotted, has_marks}
 
 abbrev pub name_part : Part rows.Row Token
 name_part = both (row rows.dotted) (choose arguments_form (row rows.type_arguments) nothing)
@@ -80,6 +80,9 @@ formed ts at n w e = formed_as (row rows.type_arguments) goal.Anywhere mode.Oper
 
 pub has_no_form : Productive grammar (choose arguments_form (row rows.type_arguments) nothing)
 has_no_form = ([], right none, d_right d_nothing)
+
+pub has_operand_type : Productive grammar (row rows.operand_type)
+has_operand_type = let k = has_both has_dotted has_no_form in let m = has_both {a = core_part} (k.0, right k.1, d_right k.2) has_marks in (m.0, node m.1, d_row m.2)
 
 at_of : {c d : Cursor} → c ≡ d → c.at ≡ d.at
 at_of e = ap (λ k. k.at) e

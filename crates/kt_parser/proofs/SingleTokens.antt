@@ -6,6 +6,7 @@ use Rattle.kc_tree.specs.declared.types.Word.{Word}
 use Rattle.kt_lexer.specs.declared.token.Token.{Token}
 use Rattle.kt_lexer.specs.declared.token.TokenKind.{TokenKind}
 use Rattle.kt_lexer.specs.declared.token.TokenKind.TheVariants as kind
+use Rattle.kt_lexer.specs.declared.token.Keyword.{Keyword}
 use Rattle.kt_lexer.specs.declared.token.Operator.{Operator}
 use Rattle.kt_parser.specs.Parsed.{NameTaken, WordAt}
 use Rattle.kt_parser.specs.Tokens.{is_op, is_name, operator_class}
@@ -14,6 +15,9 @@ use Rattle.kt_parser.proofs.Steps.{takes_one}
 
 abbrev token : TokenKind → Token
 token k = record { kind = k; span = record { file = 0; start = 0; end = 0 }; marked = false }
+
+abbrev pub word_token : Keyword → Token
+word_token k = token (kind.Word k)
 
 abbrev pub op_token : Operator → Token
 op_token k = token (kind.Op k)

@@ -28,6 +28,7 @@ use Rattle.kt_lexer.specs.declared.token.TokenKind.{TokenKind}
 use Rattle.kt_lexer.specs.declared.token.TokenKind.TheVariants as kind
 use Rattle.kt_lexer.specs.declared.token.Keyword.TheVariants as keyword
 use Rattle.kt_lexer.specs.declared.token.Operator.TheVariants as operator
+use Rattle.kt_parser.specs.Tokens.{class_of, is_one_of}
 use Rattle.kt_parser.specs.TypesBuilt.{first_of, last_of, between, no_span, span_of, word_of, number_of, type_of, type_arguments_of}
 
 -- ---- operators
@@ -74,15 +75,11 @@ assign_of_token _ = assign_op.Set
 
 -- `!in`, `!is`
 abbrev pub is_negated : TokenKind → Bool
-is_negated (kind.Word keyword.NotIn) = true
-is_negated (kind.Word keyword.NotIs) = true
-is_negated _ = false
+is_negated k = is_one_of (55 ∷ 58 ∷ []) (class_of k)
 
 -- `as?`, `?.`
 abbrev pub is_safe : TokenKind → Bool
-is_safe (kind.Word keyword.AsSafe) = true
-is_safe (kind.Op operator.SafeDot) = true
-is_safe _ = false
+is_safe k = is_one_of (44 ∷ 17 ∷ []) (class_of k)
 
 abbrev pub is_var : TokenKind → Bool
 is_var (kind.Word keyword.Var) = true
@@ -109,8 +106,24 @@ abbrev pub text_of : TokenKind → List ℕ
 text_of (kind.StringText text) = text
 text_of _ = []
 
+abbrev pub prefixed : Token → Expr → Expr
+prefixed t x = record { span = across t.span x.span; kind = e.Prefix (prefix_of_token t.kind) x }
+
 abbrev pub binary : Expr → Token → Expr → Expr
 binary x t y = record { span = across x.span y.span; kind = e.Binary (binary_of_token t.kind) t.span x y }
+
+abbrev pub infix_call : Expr → Token → Expr → Expr
+infix_call x t y = record { span = across x.span y.span; kind = e.Infix x (word_of t) y }
+
+abbrev pub contained : Expr → Token → Expr → Expr
+contained x t y = record { span = across x.span y.span; kind = e.In (is_negated t.kind) t.span x y }
+
+-- the type stands at the last place
+abbrev pub typed : Expr → Token → «Type» → Span → Expr
+typed x t ty s = record { span = across x.span s; kind = e.Is (is_negated t.kind) x ty }
+
+abbrev pub cast : Expr → Token → «Type» → Span → Expr
+cast x t ty s = record { span = across x.span s; kind = e.As (is_safe t.kind) x ty }
 
 -- a lambda without parameters and arrow that stands as a body is a block
 abbrev pub body_kind : ExprKind → ExprKind
@@ -229,8 +242,8 @@ abbrev mutual
   named_turns_of x _ = x
 
   pub named_turn_of : Expr → Cst Token → Expr
-  named_turn_of x (left (pair (leaf t) y)) = record { span = across x.span (elvis_of y).span; kind = e.In (is_negated t.kind) t.span x (elvis_of y) }
-  named_turn_of x (right (pair (leaf t) y)) = record { span = across x.span (span_of y); kind = e.Is (is_negated t.kind) x (type_of y) }
+  named_turn_of x (left (pair (leaf t) y)) = contained x t (elvis_of y)
+  named_turn_of x (right (pair (leaf t) y)) = typed x t (type_of y) (span_of y)
   named_turn_of x _ = x
 
   pub elvis_of : Cst Token → Expr
@@ -254,7 +267,7 @@ abbrev mutual
   infix_turns_of x _ = x
 
   pub infix_turn_of : Expr → Cst Token → Expr
-  infix_turn_of x (pair (leaf t) (node y)) = record { span = across x.span (range_of y).span; kind = e.Infix x (word_of t) (range_of y) }
+  infix_turn_of x (pair (leaf t) (node y)) = infix_call x t (range_of y)
   infix_turn_of x _ = x
 
   pub range_of : Cst Token → Expr
@@ -302,11 +315,11 @@ abbrev mutual
   cast_turns_of x _ = x
 
   pub cast_turn_of : Expr → Cst Token → Expr
-  cast_turn_of x (pair (leaf t) y) = record { span = across x.span (span_of y); kind = e.As (is_safe t.kind) x (type_of y) }
+  cast_turn_of x (pair (leaf t) y) = cast x t (type_of y) (span_of y)
   cast_turn_of x _ = x
 
   pub prefix_of : Cst Token → Expr
-  prefix_of (node (left (pair (leaf t) x))) = record { span = across t.span (prefix_of x).span; kind = e.Prefix (prefix_of_token t.kind) (prefix_of x) }
+  prefix_of (node (left (pair (leaf t) x))) = prefixed t (prefix_of x)
   prefix_of (node (right x)) = postfix_of x
   prefix_of _ = no_expression
 
@@ -393,12 +406,16 @@ abbrev mutual
   when_of _ = no_expression
 
   pub branches_of : Cst Token → List Branch
-  branches_of (node (left (left (pair semi more)))) = branches_of more
-  branches_of (node (left (right (pair x more)))) = branch_of x ++ branches_behind more
+  branches_of (node (left (pair x more))) = branch_of x ++ branches_behind more
   branches_of _ = []
 
+  pub more_branches_of : Cst Token → List Branch
+  more_branches_of (node (left (left (pair semi more)))) = more_branches_of more
+  more_branches_of (node (left (right (pair x more)))) = branch_of x ++ branches_behind more
+  more_branches_of _ = []
+
   pub branches_behind : Cst Token → List Branch
-  branches_behind (node (left (left (pair semi more)))) = branches_of more
+  branches_behind (node (left (left (pair semi more)))) = more_branches_of more
   branches_behind (node (left (right (node (pair x more))))) = branch_of x ++ branches_behind more
   branches_behind _ = []
 
@@ -453,12 +470,16 @@ abbrev mutual
   jump_of _ = no_expression
 
   pub statements_of : Cst Token → List Expr
-  statements_of (node (left (left (pair semi more)))) = statements_of more
-  statements_of (node (left (right (pair x more)))) = statement_of x ∷ statements_behind more
+  statements_of (node (left (pair x more))) = statement_of x ∷ statements_behind more
   statements_of _ = []
 
+  pub more_statements_of : Cst Token → List Expr
+  more_statements_of (node (left (left (pair semi more)))) = more_statements_of more
+  more_statements_of (node (left (right (pair x more)))) = statement_of x ∷ statements_behind more
+  more_statements_of _ = []
+
   pub statements_behind : Cst Token → List Expr
-  statements_behind (node (left (left (pair semi more)))) = statements_of more
+  statements_behind (node (left (left (pair semi more)))) = more_statements_of more
   statements_behind (node (left (right (node (pair x more))))) = statement_of x ∷ statements_behind more
   statements_behind _ = []
 

@@ -118,6 +118,9 @@ abbrev pub StatementsRead : Type 0
 StatementsRead =
     (left statements (a ∷ line b ∷ line c ∷ []) ≡ Some 0)
     × (left statements (a ∷ o operator.Semicolon ∷ o operator.Semicolon ∷ c ∷ []) ≡ Some 0)
+    × (left statements (o operator.Semicolon ∷ a ∷ []) ≡ Some 2)
+    × (left expression (w keyword.When ∷ in_braces (o operator.Semicolon ∷ a ∷ o operator.Arrow ∷ b ∷ [])) ≡ None)
+    × (left expression (w keyword.When ∷ in_braces (a ∷ o operator.Arrow ∷ b ∷ o operator.Semicolon ∷ [])) ≡ Some 0)
     × (left statement (a ∷ o operator.Dot ∷ b ∷ o operator.Assign ∷ c ∷ []) ≡ Some 0)
     × (left statement (a ∷ o operator.Plus ∷ b ∷ o operator.Assign ∷ c ∷ []) ≡ Some 2)
     × (left expression (w keyword.Try ∷ (in_braces [] ++ (catch_word ∷ (in_round (a ∷ o operator.Colon ∷ b ∷ []) ++ in_braces [])))) ≡ Some 0)

@@ -9,3 +9,6 @@ pub mod Examples
 pub mod Behind
 pub mod Parsed
 pub mod Moves
+pub mod Beginnings
+pub mod Expressions
+pub mod Signs

@@ -46,6 +46,7 @@ pub data Row : Type 0 where
   conditional : Row
   when_ : Row
   branches : Row
+  more_branches : Row
   after_branch : Row
   branch : Row
   conditions : Row
@@ -60,6 +61,7 @@ pub data Row : Type 0 where
   jump : Row
   block : Row
   statements : Row
+  more_statements : Row
   after_statement : Row
   statement : Row
   local : Row
@@ -130,8 +132,11 @@ equality_turns = turns is_equality comparison
 abbrev pub comparison_turn : Part Row Token
 comparison_turn = choose (next (unmarked is_comparison)) (both (one (unmarked is_comparison)) (row named)) nothing
 
+abbrev pub named_turn : Part Row Token
+named_turn = choose (next (unmarked is_in)) (both (one (unmarked is_in)) (row elvis)) (both (one (unmarked is_is)) (row operand_type))
+
 abbrev pub named_turns : Part Row Token
-named_turns = many (next (unmarked (λ t. is_in t || is_is t))) (choose (next (unmarked is_in)) (both (one (unmarked is_in)) (row elvis)) (both (one (unmarked is_is)) (row operand_type)))
+named_turns = many (next (unmarked (λ t. is_in t || is_is t))) named_turn
 
 abbrev pub elvis_turns : Part Row Token
 elvis_turns = many (next (is_op operator.Elvis)) (both (op operator.Elvis) (row infix_))
@@ -215,10 +220,12 @@ grammar conditional = both (word keyword.If) (both (in_brackets (row expression)
 grammar when_ = both (word keyword.When) (both (maybe (is_op operator.OpenRound)
     (in_brackets (both (maybe (is_word keyword.Val) (both (word keyword.Val) (both (row typed_name) (op operator.Assign)))) (row expression))))
     (both (op operator.OpenBrace) (both (row branches) (op operator.CloseBrace))))
-grammar branches = maybe (λ t. is_op operator.Semicolon t || (is_word keyword.Else t || begins_condition t))
-    (choose (next (is_op operator.Semicolon)) (both (op operator.Semicolon) (row branches)) (both (row branch) (row after_branch)))
+-- no `;` stands first; behind one more may follow
+grammar branches = maybe (λ t. is_word keyword.Else t || begins_condition t) (both (row branch) (row after_branch))
+grammar more_branches = maybe (λ t. is_op operator.Semicolon t || (is_word keyword.Else t || begins_condition t))
+    (choose (next (is_op operator.Semicolon)) (both (op operator.Semicolon) (row more_branches)) (both (row branch) (row after_branch)))
 grammar after_branch = maybe (λ t. is_op operator.Semicolon t || (is_word keyword.Else t || marked begins_condition t))
-    (choose (next (is_op operator.Semicolon)) (both (op operator.Semicolon) (row branches))
+    (choose (next (is_op operator.Semicolon)) (both (op operator.Semicolon) (row more_branches))
     (guard (next (λ t. is_word keyword.Else t || marked begins_condition t)) (both (row branch) (row after_branch))))
 grammar branch = both (choose (next (is_word keyword.Else)) (word keyword.Else) (both (row condition) (row conditions))) (both (op operator.Arrow) (row statement))
 grammar conditions = maybe (is_op operator.Comma) (both (op operator.Comma) (maybe begins_condition (both (row condition) (row conditions))))
@@ -237,10 +244,11 @@ grammar jump = choose (next (is_word keyword.Return)) (both (word keyword.Return
     (choose (next (is_word keyword.Throw)) (both (word keyword.Throw) (row expression)) (both (one is_break) (maybe is_label_use (one is_label_use))))
 -- statements
 grammar block = both (op operator.OpenBrace) (both (row statements) (op operator.CloseBrace))
-grammar statements = maybe (λ t. is_op operator.Semicolon t || begins_statement t)
-    (choose (next (is_op operator.Semicolon)) (both (op operator.Semicolon) (row statements)) (both (row statement) (row after_statement)))
+grammar statements = maybe begins_statement (both (row statement) (row after_statement))
+grammar more_statements = maybe (λ t. is_op operator.Semicolon t || begins_statement t)
+    (choose (next (is_op operator.Semicolon)) (both (op operator.Semicolon) (row more_statements)) (both (row statement) (row after_statement)))
 grammar after_statement = maybe (λ t. is_op operator.Semicolon t || marked begins_statement t)
-    (choose (next (is_op operator.Semicolon)) (both (op operator.Semicolon) (row statements)) (guard (next (marked begins_statement)) (both (row statement) (row after_statement))))
+    (choose (next (is_op operator.Semicolon)) (both (op operator.Semicolon) (row more_statements)) (guard (next (marked begins_statement)) (both (row statement) (row after_statement))))
 grammar statement = choose (next is_local) (row local) (choose (next is_loop) (row loop) (choose (next is_prefix) (guard (next is_prefix) (row expression))
     (both (row postfix) (choose (next (unmarked is_assignment)) (both (one (unmarked is_assignment)) (row expression)) operator_turns))))
 grammar local = both (one is_local) (choose (next (is_op operator.OpenRound))

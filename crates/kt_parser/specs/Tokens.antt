@@ -109,7 +109,7 @@ class_of kind.StringClose = 83
 
 abbrev pub is_one_of : List ℕ → ℕ → Bool
 is_one_of [] n = false
-is_one_of (c ∷ cs) n = c == n || is_one_of cs n
+is_one_of (c ∷ cs) n = n == c || is_one_of cs n
 
 abbrev pub is_op : Operator → Token → Bool
 is_op k t = class_of t.kind == operator_class k

@@ -1,17 +1,25 @@
 //! The grammar of types, expressions and statements, and the parser of types (Kotlin Language Specification 1.9, "Syntax grammar").
 #![tactic(auto)]
 
+mod arguments;
 mod arrows;
+mod beginnings;
+mod casts;
 mod cursor;
 mod locals;
 mod lookahead;
+mod nodes;
 mod operands;
+mod signs;
 mod tokens;
 mod types;
 
 ghost use Rattle.kt_parser.specs.Examples.{OperatorsRead, CallsRead, TypeArgumentsRead, ElsesRead, StatementsRead, FunctionTypesRead, MarksRead, ListsRead, ComparisonsRead, ClausesRead, TreesBuilt, PlacesBuilt};
 
+pub use arguments::Operands;
 pub use arrows::type_before_arrow;
+pub use beginnings::{begins_argument, begins_expression};
+pub use casts::{cast_turns, typed_turn};
 pub use cursor::Cursor;
 pub use locals::{bare_names, colon_type, names, typed_name};
 pub use lookahead::{
@@ -86,5 +94,7 @@ pub fn places_are_built()
     ensures { PlacesBuilt }
 {}
 
+#[cfg(test)]
+mod list_tests;
 #[cfg(test)]
 mod tests;

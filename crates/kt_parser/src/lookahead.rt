@@ -7,9 +7,7 @@ ghost use Rattle.kt_parser.specs.Steps.{as_step, Looks};
 ghost use Rattle.kt_parser.specs.Tokens as tokens_of;
 ghost use Rattle.kt_parser.specs.declared.lookahead.Frame.TheVariants as frames_of;
 
-use crate::tokens::{
-    class, eat, eat_name, eat_op, eat_word, is_op_at, keyword_class, operator_class,
-};
+use crate::tokens::{class, eat, eat_name, eat_op, eat_word, is_op, is_op_at, keyword_class};
 use kt_lexer::{Keyword, Operator, Token};
 use std::alloc::{AllocError, Global};
 use std::marker::Model;
@@ -188,12 +186,6 @@ fn behind_empty(frames: Frames) -> Next
         (Some(Frame::List), frames) => go(frames, Mode::Listed),
         _ => Next::Stop(false),
     }
-}
-
-fn is_op(token: &Token, operator: Operator) -> bool
-    ensures { result ≡ tokens_of.is_op operator token.now }
-{
-    class(&token.kind) == operator_class(operator)
 }
 
 fn behind_type(goal: Goal, frames: Frames, token: &Token) -> Result<Next, AllocError>

@@ -1,7 +1,8 @@
 //! Types of small texts: the place behind each, or the place at which it is refused.
 use super::*;
+use crate::casts::{cast_turns, typed_turn};
 use kc_text::{Fail, Names, Text};
-use kc_tree::Type;
+use kc_tree::{Expr, ExprKind, Type};
 use kt_lexer::{Token, tokens};
 use sqlite_items::Items;
 use std::alloc::Global;
@@ -9,7 +10,7 @@ use std::process::Abort;
 use std::test::Fail as Failed;
 
 /// The tokens of a text, after the names that mean something before certain tokens.
-fn cut(alloc: Global, source: &str) -> Result<Items<Token>, Failed> {
+pub fn cut(alloc: Global, source: &str) -> Result<Items<Token>, Failed> {
     let mut names = Names::new(alloc);
     for word in ["catch", "finally", "out"] {
         names.add(Text::from_str(alloc, word)?)?;
@@ -134,6 +135,94 @@ fn reads_types_before_arrows(rt: HostRuntime) -> Result<(), Failed> {
     for (source, expected) in table {
         assert_eq!(rt;
             shown(rt.alloc(), source, Standing::BeforeArrow)?.as_str(),
+            expected,
+            "of {source:?}"
+        );
+    }
+    Ok(())
+}
+
+/// A type behind an operand.
+#[derive(Clone, Copy)]
+enum Behind {
+    Casts,
+    Check,
+}
+
+fn operator_of(kind: &ExprKind) -> &'static str {
+    match kind {
+        ExprKind::As { safe, .. } => { if *safe { "as?" } else { "as" } }
+        ExprKind::Is { negated, .. } => { if *negated { "!is" } else { "is" } }
+        _ => "none",
+    }
+}
+
+/// How many tokens there are up to the types behind the first one, the place of the whole and its operator, or the fault's place.
+fn typed(alloc: Global, source: &str, behind: Behind) -> Result<String, Failed> {
+    let found = cut(alloc, source)?;
+    if found.len() == 0 {
+        return Ok(format!(in alloc; "nothing")?);
+    }
+    let tokens = found.as_slice();
+    let left = Expr {
+        span: span_between(tokens, 0, 1),
+        kind: ExprKind::Null,
+    };
+    let start = Cursor { at: 1, looked: 0 };
+    let read = match behind {
+        Behind::Casts => cast_turns(alloc, tokens, left, start),
+        Behind::Check => typed_turn(alloc, tokens, left, start),
+    };
+    let line = match read {
+        Ok((whole, end)) => {
+            format!(in alloc;
+                "{} of {}, {} to {}, {}",
+                end.at,
+                found.len(),
+                whole.span.start,
+                whole.span.end,
+                operator_of(&whole.kind)
+            )?
+        }
+        Err(Fail::Found(place)) => format!(in alloc; "fault {}", place)?,
+        Err(Fail::Memory) => format!(in alloc; "memory")?,
+    };
+    Ok(line)
+}
+
+#[test]
+fn reads_casts(rt: HostRuntime) -> Result<(), Failed> {
+    let table = [
+        ("a as A", "3 of 3, 0 to 6, as"),
+        ("a as A as? B<c> d", "8 of 9, 0 to 15, as?"),
+        ("a as A < b", "3 of 5, 0 to 6, as"),
+        ("a as A<b, c(", "3 of 8, 0 to 6, as"),
+        ("a\nas A", "1 of 3, 0 to 1, none"),
+        ("a as", "fault 2"),
+        ("a as (A, B as C", "fault 6"),
+    ];
+    for (source, expected) in table {
+        assert_eq!(rt;
+            typed(rt.alloc(), source, Behind::Casts)?.as_str(),
+            expected,
+            "of {source:?}"
+        );
+    }
+    Ok(())
+}
+
+#[test]
+fn reads_type_checks(rt: HostRuntime) -> Result<(), Failed> {
+    let table = [
+        ("a is A?", "4 of 4, 0 to 7, is"),
+        ("a !is A is B", "3 of 5, 0 to 7, !is"),
+        ("a\nis A", "fault 1"),
+        ("a as A", "fault 1"),
+        ("a is 1", "fault 2"),
+    ];
+    for (source, expected) in table {
+        assert_eq!(rt;
+            typed(rt.alloc(), source, Behind::Check)?.as_str(),
             expected,
             "of {source:?}"
         );

@@ -129,6 +129,20 @@ pub fn class(kind: &TokenKind) -> u8
     }
 }
 
+/// Whether the token is the operator.
+pub fn is_op(token: &Token, operator: Operator) -> bool
+    ensures { result ≡ tokens_of.is_op operator token.now }
+{
+    class(&token.kind) == operator_class(operator)
+}
+
+/// Whether the token is the keyword.
+pub fn is_word(token: &Token, keyword: Keyword) -> bool
+    ensures { result ≡ tokens_of.is_word keyword token.now }
+{
+    class(&token.kind) == keyword_class(keyword)
+}
+
 /// Whether a token of the class stands at the place.
 pub fn is_at(tokens: &[Token], at: usize, wanted: u8) -> bool
     ensures { result ≡ test (is_of wanted) (first (drop at tokens.now)) }

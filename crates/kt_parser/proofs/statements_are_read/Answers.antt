@@ -2,4 +2,4 @@ use Rattle.std.proofs.Common.{refl}
 use Rattle.kt_parser.proofs.statements_are_read.Goals as goal
 
 pub returns : goal.returns
-returns c = (refl, refl, refl, refl, refl, refl, refl, refl, refl)
+returns c = (refl, refl, refl, refl, refl, refl, refl, refl, refl, refl, refl, refl)
