@@ -1,0 +1,10 @@
+//! Files of declarations: so far how deep their tokens are nested.
+#![tactic(auto)]
+
+mod kinds;
+mod levels;
+
+pub use levels::{MOST_LEVEL, TooDeep, first_too_deep};
+
+#[cfg(test)]
+mod tests;
