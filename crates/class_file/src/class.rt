@@ -46,8 +46,8 @@ pub enum VType {
 }
 
 /// A frame that a method gives (4.7.4), at a place in bytes. A `Long` is one entry of `locals` and of `stack`. `unset` says that
-/// the method is a constructor that has not called another constructor yet. Frames that are read
-/// share the locals that they have in common; each type holds the name of its class.
+/// the method is a constructor that has not called another constructor yet. Frames that are read share the locals that they have
+/// in common, and types of one class of the pool share its name.
 #[derive(Drop)]
 pub struct Frame {
     pub at: usize,

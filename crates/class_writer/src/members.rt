@@ -1,7 +1,7 @@
 //! Fields and methods as bytes (Java Virtual Machine Specification SE 8, 4.5 and 4.6).
-ghost use Rattle.std.specs.Prelude.{◌≡◌, ◌++◌, List, ℕ, OnOk, IfOk, codes};
+ghost use Rattle.std.specs.Prelude.{◌≡◌, ◌++◌, ◌<◌, ◌^◌, List, ℕ, length, OnOk, IfOk, codes};
 ghost use Rattle.class_file.specs.ClassBytes.{FieldIs, MethodIs, MethodAttributesAre, Table};
-ghost use Rattle.class_file.specs.WrittenClass.{field_bytes, method_attributes_bytes, method_bytes, table_bytes};
+ghost use Rattle.class_file.specs.WrittenClass.{field_bytes, method_attributes_bytes, method_bytes, named_bytes, table_bytes};
 ghost use Rattle.class_writer.specs.Indexes.{AreFirst, slots_of};
 
 use crate::attributes::{put_attributes, put_known, put_named};
@@ -42,6 +42,18 @@ fn code_name(alloc: Global) -> Result<Text, Memory>
     Text::from_str(alloc, "Code")
 }
 
+/// The attribute that holds this code.
+fn code_attribute(alloc: Global, names: &Names, code: &[u8]) -> Result<Vec<u8>, Memory>
+    requires first { AreFirst names.now }
+    requires short { length code.now < 2 ^ 32 }
+    ensures { IfOk result (λ known. known.items ≡ named_bytes (slots_of names.now) (codes "Code") code.now) }
+{
+    let name = code_name(alloc)?;
+    let mut known = Vec::new(alloc);
+    put_named(&mut known, names, &name, code)?;
+    Ok(known)
+}
+
 fn put_method_attributes(
     alloc: Global,
     out: &mut Vec<u8>,
@@ -58,8 +70,7 @@ fn put_method_attributes(
         [] => put_attributes(out, names, others),
         [_, ..] => {
             let code = code_of(alloc, names, this, method)?;
-            let mut known = Vec::new(alloc);
-            put_named(&mut known, names, &code_name(alloc)?, &code)?;
+            let known = code_attribute(alloc, names, &code)?;
             put_known(out, names, &known, others)
         }
     }

@@ -64,13 +64,8 @@ pub fn equality(
 fn line_feed(alloc: Global, file: usize, place: Place) -> Result<Core, AllocError>
     ensures { IfOk result (λ e. e ≡ nodes.line_feed file place) }
 {
-    let units = Vec::from_slice(alloc, &[10])?;
-    Ok(node(
-        file,
-        place,
-        TypeTree::String,
-        Kind::StrLit(Text::from_units(units)),
-    ))
+    let text = Text::from_units(alloc, Vec::from_slice(alloc, &[10])?)?;
+    Ok(node(file, place, TypeTree::String, Kind::StrLit(text)))
 }
 
 // The value's text and a line feed.

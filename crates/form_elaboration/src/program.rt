@@ -29,7 +29,7 @@ fn main_name(alloc: Global) -> Result<Text, AllocError>
     ensures { IfOk result (λ name. name ≡ codes "main") }
 {
     let units = Vec::from_slice(alloc, &[109, 97, 105, 110])?;
-    Ok(Text::from_units(units))
+    Ok(Text::from_units(alloc, units)?)
 }
 
 /// The program whose one function is `main`, with these parts and these locals.

@@ -144,7 +144,7 @@ fn with_dots(alloc: Global, name: &Text) -> Result<Text, Memory>
     ensures { IfOk result (λ text. text ≡ dotted name.now) }
 {
     let units = name.units().iter().map(|unit| dot_for_slash(*unit));
-    Ok(Text::from_units(units.collect(alloc)?))
+    Ok(Text::from_units(alloc, units.collect(alloc)?)?)
 }
 
 fn dot_for_slash(unit: u16) -> u16

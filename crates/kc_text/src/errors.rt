@@ -22,6 +22,12 @@ impl<T: Drop> From<AllocFailed<T>> for Memory {
     }
 }
 
+impl From<Memory> for AllocError {
+    fn from(_refused: Memory) -> AllocError {
+        AllocError
+    }
+}
+
 /// Why a call gives no answer, where it can also fail by what it found.
 #[derive(Debug, PartialEq, Eq, Drop)]
 pub enum Fail<F> {

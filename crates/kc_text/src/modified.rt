@@ -31,7 +31,8 @@ impl Text {
             rest = next;
         }
         if rest.is_empty() {
-            return Ok(Text::from_units(units));
+            let text = Text::from_units(alloc, units)?;
+            return Ok(text);
         }
         Err(Fail::Found(BadModified {
             at: bytes.len() - rest.len(),

@@ -61,7 +61,7 @@ fn writes_lone_surrogates_as_question_marks(rt: HostRuntime) -> Result<(), Faile
         (&[0x41, 0xDBFF], b"A?"),
     ];
     for (units, bytes) in table {
-        let text = Text::from_units(units.to_vec(rt.alloc())?);
+        let text = Text::from_units(rt.alloc(), units.to_vec(rt.alloc())?)?;
         assert_eq!(rt; text.to_utf8(rt.alloc())?.as_slice(), bytes, "of {units:?}");
     }
     Ok(())
@@ -79,7 +79,38 @@ fn builds_and_compares(rt: HostRuntime) -> Result<(), Failed> {
     assert_eq!(rt; text, Text::from_str(rt.alloc(), "kc")?);
     assert_eq!(rt; text, text.copy(rt.alloc())?);
     assert_ne!(rt; text, Text::from_str(rt.alloc(), "kC")?);
-    assert_eq!(rt; text.into_units().as_slice(), [0x6B, 0x63].as_slice());
+    assert_eq!(rt; text.units(), [0x6B, 0x63].as_slice());
+    Ok(())
+}
+
+#[test]
+fn changes_leave_copies_as_they_are(rt: HostRuntime) -> Result<(), Failed> {
+    let mut text = Text::from_units(rt.alloc(), [0x61; 300].to_vec(rt.alloc())?)?;
+    let mut other = text.copy(rt.alloc())?;
+    let third = other.copy(rt.alloc())?;
+    other.push(0x62)?;
+    other.push(0x63)?;
+    text.push_units(&[0x64])?;
+    assert_eq!(rt; (other.len(), other.unit_at(301)), (302, 0x63));
+    assert_eq!(rt; (text.len(), text.unit_at(300)), (301, 0x64));
+    assert_eq!(rt; third.units(), [0x61; 300].as_slice());
+    Ok(())
+}
+
+#[test]
+fn refills(rt: HostRuntime) -> Result<(), Failed> {
+    let mut text = Text::new(rt.alloc());
+    let mut copy = text.copy(rt.alloc())?;
+    copy.push(0x61)?;
+    assert!(rt; text.is_empty());
+    text.refill(&[0x62, 0x63])?;
+    let mut other = text.copy(rt.alloc())?;
+    other.refill(&[0x64])?;
+    assert_eq!(rt; text.units(), [0x62, 0x63].as_slice());
+    assert_eq!(rt; other.units(), [0x64].as_slice());
+    other.refill(&[])?;
+    assert!(rt; other.is_empty());
+    assert_eq!(rt; copy.units(), [0x61].as_slice());
     Ok(())
 }
 
@@ -110,6 +141,7 @@ fn keeps_want_of_memory_apart(rt: HostRuntime) {
         Fail::<BadUtf8>::from(Memory::from(AllocError)),
         Fail::Memory
     );
+    assert_eq!(rt; Memory::from(AllocError::from(Memory)), Memory);
     let refused = AllocFailed { value: 1u8 };
     assert_eq!(rt; Fail::<BadUtf8>::from(refused), Fail::Memory);
     assert_ne!(rt; Fail::Found(BadUtf8 { at: 0 }), Fail::Memory);

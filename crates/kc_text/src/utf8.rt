@@ -33,7 +33,8 @@ impl Text {
         for character in text.chars() {
             push_character(&mut units, character)?;
         }
-        Ok(Text::from_units(units))
+        let text = Text::from_units(alloc, units)?;
+        Ok(text)
     }
 
     /// The UTF-8 of the text's characters, with `?` for each surrogate without its partner.

@@ -84,7 +84,7 @@ pub struct Expr {
 #[cycle(tree)]
 #[derive(Drop)]
 pub enum ExprKind {
-    /// An integer literal up to the greatest `Long`, or one more directly behind a prefix `-`. `long` says that it ends in `L`.
+    /// An integer literal up to the greatest `Long`, or one more where a `-` is the token before it. `long` says that it ends in `L`.
     Number {
         value: u64,
         long: bool,

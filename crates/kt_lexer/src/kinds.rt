@@ -1,5 +1,5 @@
 //! What a token holds.
-ghost use Rattle.std.specs.Prelude.{◌≡◌, ◌≤◌, ◌<◌, ◌-◌, ◌+◌, length, take, drop, IfOk, OnOk};
+ghost use Rattle.std.specs.Prelude.{◌≤◌, ◌<◌, ◌-◌, ◌+◌, length, take, drop, IfOk};
 ghost use Rattle.kc_text.specs.NameList.{KeepsNumbers};
 ghost use Rattle.kt_lexer.specs.Cut.{IsKind, Numbers};
 
@@ -8,18 +8,6 @@ use crate::strings::text_units;
 use crate::token::TokenKind;
 use kc_text::{Memory, Names, Text};
 use std::alloc::Global;
-use std::mem;
-
-/// Puts these units in place of the text's, in the memory that it has.
-fn refill(alloc: Global, text: &mut Text, units: &[u16]) -> Result<(), Memory>
-    ensures { OnOk result (text.new ≡ units.now) }
-{
-    let mut old = mem::replace(text, Text::new(alloc)).into_units();
-    old.clear();
-    old.extend_from_slice(units)?;
-    *text = Text::from_units(old);
-    Ok(())
-}
 
 /// The number of this name, which goes to the list's end if it is not there yet. It takes memory only for a new name, and where
 /// the scratch text has too little.
@@ -32,12 +20,12 @@ fn number_of_name(
     ensures number { IfOk result (λ number. Numbers names.new number name.now) }
     ensures keeps { KeepsNumbers names.old names.new }
 {
-    refill(alloc, scratch, name)?;
+    scratch.refill(name)?;
     if let Some(number) = names.find(scratch) {
         return Ok(number);
     }
-    let copy = scratch.copy(alloc)?;
-    names.add(copy)
+    let units = Vec::from_slice(alloc, name)?;
+    names.add(Text::from_units(alloc, units)?)
 }
 
 /// The kind of the token of this shape and length in front of a text. The scratch text may hold anything.

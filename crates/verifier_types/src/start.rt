@@ -62,7 +62,7 @@ fn owned(alloc: Global, seen: VerificationType) -> Result<VType, Memory>
         VerificationType::UninitializedThis => Ok(VType::UninitializedThis),
         VerificationType::Object(name) => {
             let units = Vec::from_slice(alloc, name)?;
-            Ok(VType::Object(Text::from_units(units)))
+            Ok(VType::Object(Text::from_units(alloc, units)?))
         }
         VerificationType::Uninitialized(at) => Ok(VType::Uninitialized(at)),
     }

@@ -293,8 +293,9 @@ fn prints_an_exception_without_message(rt: HostRuntime) -> Result<(), Fail> {
 
 #[test]
 fn prints_a_lone_surrogate_as_a_question_mark(rt: HostRuntime) -> Result<(), Fail> {
-    let class = Text::from_units([0x45, 0x2F, 0xD800].to_vec(rt.alloc())?);
-    let message = Some(Text::from_units([0x2F, 0xDC00].to_vec(rt.alloc())?));
+    let class = Text::from_units(rt.alloc(), [0x45, 0x2F, 0xD800].to_vec(rt.alloc())?)?;
+    let message = Text::from_units(rt.alloc(), [0x2F, 0xDC00].to_vec(rt.alloc())?)?;
+    let message = Some(message);
     let line = line_of(rt.alloc(), &Report::Threw { class, message })?;
     assert_eq!(rt; line.as_slice(), b"exception: E.?: /?\n".as_slice());
     Ok(())

@@ -13,8 +13,8 @@ code_of-requires-clause-spelled c =
     let some : 0 < length c.args.method.now.code = subst (λ (is : List Instr). 0 < length is) c.as_slice.ensures (omega (arith, c.in-len1-up.len_at_least)) in
     code_spelled (slots_of c.args.names.now) c.args.this.now c.args.method.now c.requires.spelled.0 some c.requires.spelled.1
 
-pub put_named-requires-clause-short : goal.put_named-requires-clause-short
-put_named-requires-clause-short c =
+pub code_attribute-requires-clause-short : goal.code_attribute-requires-clause-short
+code_attribute-requires-clause-short c =
     let some : 0 < length c.args.method.now.code = subst (λ (is : List Instr). 0 < length is) c.as_slice.ensures (omega (arith, c.in-len1-up.len_at_least)) in
     rw (c.deref.ensures.value, c.in_ok-code-in-len1-up.ensures) (code_short (slots_of c.args.names.now) c.args.this.now c.args.method.now c.requires.spelled.0 some c.requires.spelled.1)
 

@@ -11,7 +11,7 @@ pub returns-then-is_empty-clause-only : goal.returns-then-is_empty-clause-only
 returns-then-is_empty-clause-only c units all e =
     let read = c.loop-unit.invariant in
     let none : length c.loop-unit.rest.now ≡ 0 = search rules in
-    one_text units c.loop-unit.units.items all read.fits (e ∙ all_read c.loop-unit.units.items c.loop-unit.rest.now c.args.bytes.now read.spelled none) ∙ sym c.from_units.ensures
+    one_text units c.loop-unit.units.items all read.fits (e ∙ all_read c.loop-unit.units.items c.loop-unit.rest.now c.args.bytes.now read.spelled none) ∙ sym c.in_ok-text.ensures
 
 pub returns-clause-refused : goal.returns-clause-refused
 returns-clause-refused c =
