@@ -4,6 +4,8 @@
 
 mod copy;
 #[cfg(test)]
+mod reader_tests;
+#[cfg(test)]
 mod tests;
 
 pub use copy::copy_of;

@@ -15,8 +15,6 @@ mod natives;
 mod rows;
 mod run;
 mod steps;
-#[cfg(test)]
-mod tests;
 mod throws;
 
 pub use building::is_built;

@@ -17,6 +17,3 @@ mod seen;
 mod uses;
 
 pub use class::read_class;
-
-#[cfg(test)]
-mod tests;

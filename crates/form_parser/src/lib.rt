@@ -7,8 +7,6 @@ mod form;
 mod operators;
 mod parser;
 pub mod surface;
-#[cfg(test)]
-mod tests;
 mod tokens;
 
 pub use form::{read_source, size_is_within_bytes, source_is_determined};

@@ -21,6 +21,3 @@ pub use laws::{
     operator_is_longest, word_is_longest,
 };
 pub use token::{Keyword, LexFault, Operator, Token, TokenKind};
-
-#[cfg(test)]
-mod tests;

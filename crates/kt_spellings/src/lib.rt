@@ -28,3 +28,6 @@ pub fn cut_is_spelled()
 pub fn spelled_is_cut()
     ensures { SpelledIsCut }
 {}
+
+#[cfg(test)]
+mod tests;

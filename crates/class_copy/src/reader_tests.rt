@@ -1,6 +1,8 @@
-use super::*;
+//! What `read_class` answers to some files.
+
 use class_file::format_fault::{FormatCode, FormatFault};
 use class_file::pool::Entry;
+use class_reader::read_class;
 use kc_text::Fail;
 use std::test::Fail as Failed;
 

@@ -1,7 +1,7 @@
 //! Texts of the form, with the shapes of their trees, and texts that are not of the form.
 
-use crate::read_source;
-use crate::surface::{Expression, ExpressionKind, Source, Statement};
+use form_parser::read_source;
+use form_parser::surface::{Expression, ExpressionKind, Source, Statement};
 use kc_core::tree::{BinaryOp, Order};
 use std::alloc::{AllocError, Global};
 use std::test::Fail;

@@ -1,6 +1,6 @@
 //! Sources and what they are cut into: each token with `^` before it where it is marked, or the fault.
-use super::*;
 use kc_text::{Fail, Names, Text};
+use kt_lexer::{TokenKind, tokens};
 use std::alloc::Global;
 use std::process::Abort;
 use std::test::Fail as Failed;
@@ -182,15 +182,15 @@ fn cuts_strings(rt: HostRuntime) -> Result<(), Failed> {
         ("\"\"", "StringOpen StringClose "),
         (
             "\"a$ $1 $if\"",
-            "StringOpen StringText(Text { units: [97, 36, 32, 36, 49, 32, 36, 105, 102] }) StringClose ",
+            "StringOpen StringText(Text { alloc: Global, units: Some([97, 36, 32, 36, 49, 32, 36, 105, 102]) }) StringClose ",
         ),
         (
             "\"\\t\\b\\n\\r\\'\\\"\\\\\\$\\uD83d\"",
-            "StringOpen StringText(Text { units: [9, 8, 10, 13, 39, 34, 92, 36, 55357] }) StringClose ",
+            "StringOpen StringText(Text { alloc: Global, units: Some([9, 8, 10, 13, 39, 34, 92, 36, 55357]) }) StringClose ",
         ),
         (
             "\"a$b-${c}\"",
-            "StringOpen StringText(Text { units: [97] }) StringName(0) StringText(Text { units: [45] }) HoleOpen Name(1) HoleClose StringClose ",
+            "StringOpen StringText(Text { alloc: Global, units: Some([97]) }) StringName(0) StringText(Text { alloc: Global, units: Some([45]) }) HoleOpen Name(1) HoleClose StringClose ",
         ),
         (
             "\"${\"${\"${a}\"}\"}\"",
@@ -198,7 +198,7 @@ fn cuts_strings(rt: HostRuntime) -> Result<(), Failed> {
         ),
         (
             "\"${{}}}\"",
-            "StringOpen HoleOpen Op(OpenBrace) Op(CloseBrace) HoleClose StringText(Text { units: [125] }) StringClose ",
+            "StringOpen HoleOpen Op(OpenBrace) Op(CloseBrace) HoleClose StringText(Text { alloc: Global, units: Some([125]) }) StringClose ",
         ),
         (
             "\"${\n a\n}\"",
@@ -211,7 +211,7 @@ fn cuts_strings(rt: HostRuntime) -> Result<(), Failed> {
         ("\u{feff}a", "Name(0) "),
         (
             "\"\u{feff}\" /*\u{feff}*/",
-            "StringOpen StringText(Text { units: [65279] }) StringClose ",
+            "StringOpen StringText(Text { alloc: Global, units: Some([65279]) }) StringClose ",
         ),
     ];
     compare(&rt, rt.alloc(), table.as_slice())

@@ -1,10 +1,10 @@
-//! Each call once with ample memory, over sets made by hand. What they write is worked out from the Java Virtual Machine
+//! Each call of the machine once with ample memory, over sets made by hand. What they write is worked out from the Java Virtual Machine
 //! Specification SE 8.
-use crate::{LoadFault, Machine, RunEnd};
 use class_file::class::{ClassFile, Frame, Handler, Method, Set, VType};
 use class_file::frames::Frames;
 use class_file::instr::Instr;
 use class_file::pool::{Entry, Pool};
+use class_machine::{LoadFault, Machine, RunEnd};
 use kc_io::{MemorySink, MemorySource};
 use kc_text::{Fail, Memory, Text};
 use shared_list::SharedList;
