@@ -5,6 +5,11 @@
 //! a class file or the set of them is refused, 8 at the limit of steps, and 70 for want of memory.
 #![tactic(auto)]
 
+#[cfg(test)]
+mod machine_tests;
+#[cfg(test)]
+mod verifier_tests;
+
 use class_file::class::{ClassFile, Set};
 use class_machine::{Machine, RunEnd};
 use class_reader::read_class;

@@ -5,4 +5,6 @@ pub mod Marks
 pub mod FrameTable
 pub mod Fitting
 pub mod Sweeps
+pub mod Carries
+pub mod Leaving
 pub mod Wholes

@@ -1,15 +1,13 @@
 // The frames of a method.
-ghost use Rattle.std.specs.Prelude.{◌≡◌, ◌++◌, ◌∷◌, ◌-◌, [], length, map, reverse, replicate, OnOk, IfOk};
-ghost use Rattle.std.specs.Option.{option_map};
+ghost use Rattle.std.specs.Prelude.{◌≡◌, ◌++◌, ◌∷◌, ◌-◌, [], map, reverse, replicate, OnOk, IfOk};
 ghost use Rattle.class_file.specs.declared.class.VType.TheVariants as vtype;
 ghost use Rattle.class_file.specs.Members.{described};
-ghost use Rattle.class_file.specs.Verification.{spread, padded, types_given, given_in, given_at, is_static, is_constructor, receiver_types, first_types};
+ghost use Rattle.class_file.specs.Verification.{spread, padded, is_static, is_constructor, receiver_types, first_types};
 ghost use Rattle.verifier_types.specs.Seen.{type_of};
 ghost use Rattle.verifier_types.specs.Frames.{shown};
 ghost use Rattle.verifier_types.specs.Calls.{call_seen};
 
-use crate::tabled::TabledMethod;
-use class_file::class::{ClassFile, Frame, Method, VType};
+use class_file::class::{ClassFile, Method, VType};
 use kc_text::Memory;
 use std::alloc::Global;
 use verifier_types::{Call, Known, Locals, Stack, VerificationType, is_init};
@@ -21,15 +19,6 @@ fn push_local<'a>(locals: &mut Locals<'a>, t: VerificationType<'a>) -> Result<()
     locals.push(t)?;
     if let VerificationType::Long = t {
         locals.push(VerificationType::Top)?;
-    }
-    Ok(())
-}
-
-fn push_given<'a>(locals: &mut Locals<'a>, types: &[&'a VType]) -> Result<(), Memory>
-    ensures { OnOk result (locals.new ≡ locals.old ++ spread (map (λ t. t.now) types.now)) }
-{
-    for t in types {
-        push_local(locals, VerificationType::given(t))?;
     }
     Ok(())
 }
@@ -53,7 +42,17 @@ fn pad(locals: &mut Locals, max: usize) -> Result<(), Memory>
     Ok(())
 }
 
-fn given_stack<'a>(alloc: Global, types: &'a [VType]) -> Result<Stack<'a>, Memory>
+/// So many local variables that hold nothing.
+pub fn blank<'a>(alloc: Global, max: usize) -> Result<Locals<'a>, Memory>
+    ensures { IfOk result (λ locals. locals ≡ replicate max vtype.Top) }
+{
+    let mut locals = Locals::new(alloc);
+    pad(&mut locals, max)?;
+    Ok(locals)
+}
+
+/// The stack of a given frame, whose top stands last.
+pub fn given_stack<'a>(alloc: Global, types: &'a [VType]) -> Result<Stack<'a>, Memory>
     ensures { IfOk result (λ stack. stack ≡ reverse types.now) }
 {
     let mut stack = Stack::new(alloc);
@@ -61,34 +60,6 @@ fn given_stack<'a>(alloc: Global, types: &'a [VType]) -> Result<Stack<'a>, Memor
         stack.push(VerificationType::given(t))?;
     }
     Ok(stack)
-}
-
-fn known_of<'a>(alloc: Global, max: usize, frame: &'a Frame) -> Result<Known<'a>, Memory>
-    ensures { IfOk result (λ known. shown known ≡ types_given max frame.now) }
-{
-    let mut locals = Locals::new(alloc);
-    push_given(&mut locals, &frame.locals.in_order(alloc)?)?;
-    pad(&mut locals, max)?;
-    let stack = given_stack(alloc, frame.stack.as_slice())?;
-    Ok(Known {
-        locals,
-        stack,
-        unset: frame.unset,
-    })
-}
-
-/// The types that a given frame says for a place.
-pub fn given<'a>(
-    alloc: Global,
-    method: &TabledMethod<'a>,
-    pc: usize,
-) -> Result<Option<Known<'a>>, Memory>
-    ensures { IfOk result (λ known. option_map shown known ≡ given_at method.now pc) }
-{
-    match method.frame_at(pc) {
-        None => Ok(None),
-        Some(frame) => Ok(Some(known_of(alloc, method.max_locals(), frame)?)),
-    }
 }
 
 fn is_static(method: &Method) -> bool

@@ -1,6 +1,7 @@
 //! The verifier: which sets of class files verify, and which instruction is the first that does not.
 #![tactic(auto)]
 
+mod carried;
 mod flow;
 mod frames;
 mod given;
@@ -11,8 +12,6 @@ mod scan;
 mod sweep;
 mod tabled;
 mod tables;
-#[cfg(test)]
-mod tests;
 mod verified;
 
 pub use loading::{has_code_at, is_loaded, is_reserved, static_named};

@@ -3,18 +3,20 @@ ghost use Rattle.std.specs.Prelude.{◌≡◌, ◌+◌, ◌<◌, ◌^◌, ℕ, t
 ghost use Rattle.std.specs.Option.{option_map};
 ghost use Rattle.class_file.specs.Members.{described};
 ghost use Rattle.class_file.specs.Typing.{Types};
-ghost use Rattle.class_file.specs.Verification.{flow_fault, start_fault, entering_at, scan, method_fault, first_types};
+ghost use Rattle.class_file.specs.Verification.{flow_fault, start_fault, scan, method_fault, first_types};
 ghost use Rattle.verifier_types.specs.Frames.{shown};
 ghost use Rattle.verifier_types.specs.Calls.{call_seen};
 ghost use Rattle.class_file.specs.Lots.{in_first_lot};
 ghost use Rattle.verifier.specs.Sweeping.{HasCovering};
 ghost use Rattle.verifier.specs.Turns.{turn_of};
+ghost use Rattle.verifier.specs.Carrying.{IsTracked, flow_of};
 ghost use Rattle.verifier.specs.Answers.{InLot, place_seen};
 
+use crate::carried::Carried;
 use crate::flow::{
     fall_fault, frame_fault, goes_on, jump_frame_fault, jump_of, next_frame_fault, target_fault,
 };
-use crate::frames::{first_types, given};
+use crate::frames::first_types;
 use crate::handlers::{all_caught, rows_fault};
 use crate::sweep::HandlerSweep;
 use crate::tabled::TabledMethod;
@@ -25,15 +27,7 @@ use class_file::table::{length_of, row_of};
 use class_file::verify_code::VerifyCode;
 use kc_text::Memory;
 use std::alloc::Global;
-use verifier_types::{Call, Known, NamedSet, described, step};
-
-/// What one instruction comes to.
-#[derive(Drop)]
-pub enum Turn<'a> {
-    Fails(VerifyCode),
-    /// What flows on to the next instruction, if anything does.
-    Flows(Option<Known<'a>>),
-}
+use verifier_types::{Call, Known, NamedSet, described};
 
 /// A place in a method's code, and the code there.
 #[derive(Clone, Copy)]
@@ -94,24 +88,7 @@ fn flow_fault(
     Ok(fall_fault(method, goes, next))
 }
 
-// The types before an instruction, from what the one before it leaves.
-fn entering<'a>(
-    alloc: Global,
-    method: &TabledMethod<'a>,
-    pc: usize,
-    flow: Option<Known<'a>>,
-) -> Result<Option<Known<'a>>, Memory>
-    ensures { IfOk result (λ known. option_map shown known ≡ entering_at method.now pc (option_map shown flow.entry)) }
-{
-    if let Some(known) = given(alloc, method, pc)? {
-        return Ok(Some(known));
-    }
-    if method.needs_frame(pc) {
-        return Ok(None);
-    }
-    Ok(flow)
-}
-
+// The fault of an instruction, or what it leaves to the next one.
 fn one_instruction<'a>(
     alloc: Global,
     set: &NamedSet,
@@ -121,39 +98,33 @@ fn one_instruction<'a>(
     rows: &[Handler],
     pc: usize,
     instr: &Instr,
-    entering: Option<Known<'a>>,
-) -> Result<Turn<'a>, Memory>
+    carried: &mut Carried<'a>,
+) -> Result<Option<VerifyCode>, Memory>
     requires small { pc < 2 ^ 32 }
     requires covering { HasCovering method.now.handlers pc rows.now }
     requires call { call_seen call.now ≡ described method.now.descriptor }
     requires lot { InLot instr.now }
-    ensures { IfOk result (λ done. turn_of set.now class.now method.now pc instr.now (option_map shown entering.entry) done) }
+    ensures turn { IfOk result (λ fault. turn_of set.now class.now method.now pc instr.now (flow_of carried.old) fault (flow_of carried.new)) }
+    ensures tracked { IfOk result (λ fault. fault ≡ None → IsTracked carried.old → IsTracked carried.new) }
 {
-    let Some(mut known) = entering else {
-        return Ok(Turn::Fails(VerifyCode::MissingFrame));
-    };
-    if let Some(code) = start_fault(alloc, set, class, method, call, pc)? {
-        return Ok(Turn::Fails(code));
+    if !carried.flows {
+        return Ok(Some(VerifyCode::MissingFrame));
     }
-    let is_safe = all_caught(alloc, set, class, method, rows, pc, &known)?;
+    if let Some(code) = start_fault(alloc, set, class, method, call, pc)? {
+        return Ok(Some(code));
+    }
+    let is_safe = all_caught(alloc, set, class, method, rows, pc, &carried.known)?;
     let row = row_of(pc, instr);
     let next = pc + length_of(instr);
-    if let Some(code) = step(
-        alloc,
-        set,
-        class,
-        method.as_method(),
-        pc,
-        call.result,
-        row,
-        &mut known,
-    )? {
-        return Ok(Turn::Fails(code));
+    if let Some(code) = carried.step(alloc, set, class, method.as_method(), pc, call.result, row)? {
+        return Ok(Some(code));
     }
-    if let Some(code) = flow_fault(alloc, set, class, method, pc, row, next, is_safe, &known)? {
-        return Ok(Turn::Fails(code));
+    let known = &carried.known;
+    if let Some(code) = flow_fault(alloc, set, class, method, pc, row, next, is_safe, known)? {
+        return Ok(Some(code));
     }
-    Ok(Turn::Flows(if goes_on(row) { Some(known) } else { None }))
+    carried.flows = goes_on(row);
+    Ok(None)
 }
 
 fn scan<'a>(
@@ -171,15 +142,24 @@ fn scan<'a>(
     ensures { IfOk result (λ fault. option_map place_seen fault ≡ scan set.now class.now method.now code.now 0 (Some (shown first.entry))) }
 {
     let mut pc = 0;
-    let mut flow = Some(first);
+    let mut carried = Carried::new(alloc, first);
     let mut sweep = HandlerSweep::new(alloc, method.as_method().handlers.as_slice())?;
     for instr in code {
         sweep.advance(pc)?;
-        let known = entering(alloc, method, pc, flow)?;
+        carried = carried.enter(alloc, method, pc)?;
         let rows = sweep.rows();
-        match one_instruction(alloc, set, class, method, call, rows, pc, instr, known)? {
-            Turn::Fails(code) => return Ok(Some(Place { at: pc, code })),
-            Turn::Flows(next) => flow = next,
+        if let Some(code) = one_instruction(
+            alloc,
+            set,
+            class,
+            method,
+            call,
+            rows,
+            pc,
+            instr,
+            &mut carried,
+        )? {
+            return Ok(Some(Place { at: pc, code }));
         }
         pc += length_of(instr);
     }

@@ -75,7 +75,7 @@ impl HandlerSweep {
         Ok(())
     }
 
-    /// The rows that cover the place.
+    /// All rows that cover the place, and perhaps some that no longer do.
     pub fn rows(&self) -> &[Handler]
         ensures { result.now ≡ self.now.covering.items }
     {

@@ -1,4 +1,4 @@
-use crate::{is_first_lot, verify};
+//! The first fault of methods made by hand, one or more for each code of the first lot.
 use class_file::class::{ClassFile, Frame, Handler, Method, Set, VType};
 use class_file::frames::Frames;
 use class_file::instr::Instr;
@@ -9,6 +9,7 @@ use shared_list::SharedList;
 use sqlite_items::Items;
 use std::alloc::Global;
 use std::test::Fail as Failed;
+use verifier::{is_first_lot, verify};
 
 // What lies on a stack: so many Ints, or a thrown object.
 #[derive(Clone, Copy)]
@@ -492,6 +493,48 @@ fn tells_nested_rows(rt: HostRuntime) -> Result<(), Failed> {
             true,
             "of row {n}, the inner one last"
         );
+    }
+    Ok(())
+}
+
+// Two frames in a row, so many Ints long: what one leaves out is unset there, whether it was stored or given before.
+#[test]
+fn unsets_what_frames_leave_out(rt: HostRuntime) -> Result<(), Failed> {
+    let table = [
+        (2, 2, Instr::Iload1, None),
+        (1, 2, Instr::Iload1, None),
+        (1, 1, Instr::Iload0, None),
+        (0, 1, Instr::Iload0, Some((5, VerifyCode::WrongFrame))),
+        (1, 1, Instr::Iload1, Some((6, VerifyCode::WrongType))),
+        (2, 1, Instr::Iload1, Some((6, VerifyCode::WrongType))),
+        (2, 0, Instr::Iload0, Some((6, VerifyCode::WrongType))),
+    ];
+    for (n, (first, second, load, fault)) in table.iter().enumerate() {
+        let code = [
+            Instr::Iconst0,
+            Instr::Istore0,
+            Instr::Iconst0,
+            Instr::Istore1,
+            Instr::Iconst0,
+            Instr::Istore1,
+            *load,
+            Instr::Pop,
+            Instr::Return,
+        ];
+        let frames = [
+            Given {
+                at: 4,
+                locals: *first,
+                stack: Lying::Ints(0),
+            },
+            Given {
+                at: 6,
+                locals: *second,
+                stack: Lying::Ints(0),
+            },
+        ];
+        let told = is_told(rt.alloc(), &plain(&code, &frames, *fault))?;
+        assert_eq!(rt; told, true, "of row {n}");
     }
     Ok(())
 }
