@@ -10,6 +10,6 @@ pub mod NameRows
 pub mod OperandRows
 pub mod ArrowRows
 pub mod ArgumentRows
-pub mod LoneNames
 pub mod SignRows
 pub mod CastRows
+pub mod OperatorRows

@@ -81,6 +81,10 @@ is_negated k = is_one_of (55 ∷ 58 ∷ []) (class_of k)
 abbrev pub is_safe : TokenKind → Bool
 is_safe k = is_one_of (44 ∷ 17 ∷ []) (class_of k)
 
+abbrev pub is_val : TokenKind → Bool
+is_val (kind.Word keyword.Val) = true
+is_val _ = false
+
 abbrev pub is_var : TokenKind → Bool
 is_var (kind.Word keyword.Var) = true
 is_var _ = false

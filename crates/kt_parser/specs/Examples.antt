@@ -23,29 +23,29 @@ use Rattle.kt_parser.specs.TypesBuilt.{no_span}
 use Rattle.kt_parser.specs.Built.{expression_of, statement_of}
 use Rattle.kt_parser.specs.Rows.{Row, grammar, expression, statement, statements, type_}
 
-abbrev token : TokenKind → Token
+abbrev pub token : TokenKind → Token
 token k = record { kind = k; span = record { file = 0; start = 0; end = 0 }; marked = false }
 
 -- on a line of its own
-abbrev line : Token → Token
+abbrev pub line : Token → Token
 line t = record t { marked = true }
 
-abbrev o : Operator → Token
+abbrev pub o : Operator → Token
 o k = token (kind.Op k)
 
-abbrev w : Keyword → Token
+abbrev pub w : Keyword → Token
 w k = token (kind.Word k)
 
-abbrev a : Token
+abbrev pub a : Token
 a = token (kind.Name 30)
 
-abbrev b : Token
+abbrev pub b : Token
 b = token (kind.Name 31)
 
-abbrev c : Token
+abbrev pub c : Token
 c = token (kind.Name 32)
 
-abbrev d : Token
+abbrev pub d : Token
 d = token (kind.Name 33)
 
 abbrev label_d : Token
@@ -60,10 +60,10 @@ finally_word = token (kind.Name 1)
 abbrev one : Token
 one = token (kind.Number 1 false)
 
-abbrev in_round : List Token → List Token
+abbrev pub in_round : List Token → List Token
 in_round ts = o operator.OpenRound ∷ (ts ++ (o operator.CloseRound ∷ []))
 
-abbrev in_braces : List Token → List Token
+abbrev pub in_braces : List Token → List Token
 in_braces ts = o operator.OpenBrace ∷ (ts ++ (o operator.CloseBrace ∷ []))
 
 abbrev left_in : Option (Cst Token × List Token) → Option ℕ
@@ -71,7 +71,7 @@ left_in None = None
 left_in (Some k) = Some (length k.1)
 
 -- the number of tokens that the row leaves
-abbrev left : Row → List Token → Option ℕ
+abbrev pub left : Row → List Token → Option ℕ
 left n ts = left_in (read grammar 2000 (row n) ts)
 
 -- operators and lines
@@ -227,14 +227,14 @@ TreesBuilt =
 
 -- ---- trees with places: each token is one unit long, and they stand without gaps
 
-abbrev placed : ℕ → List Token → List Token
+abbrev pub placed : ℕ → List Token → List Token
 placed i [] = []
 placed i (t ∷ ts) = record t { span = record { file = 0; start = i; end = suc i } } ∷ placed (suc i) ts
 
-abbrev s : ℕ → ℕ → Span
+abbrev pub s : ℕ → ℕ → Span
 s i j = record { file = 0; start = i; end = j }
 
-abbrev at : ℕ → ℕ → ExprKind → Expr
+abbrev pub at : ℕ → ℕ → ExprKind → Expr
 at i j k = record { span = s i j; kind = k }
 
 -- a call's place is that of its `(`; a body takes what stands behind its brace; levels

@@ -5,10 +5,13 @@ pub mod Steps
 pub mod Rows
 pub mod TypesBuilt
 pub mod Built
+pub mod DeclarationsBuilt
 pub mod Examples
+pub mod DeclarationExamples
 pub mod Behind
 pub mod Parsed
 pub mod Moves
 pub mod Beginnings
 pub mod Expressions
 pub mod Signs
+pub mod Readers

@@ -14,7 +14,7 @@ use Rattle.kt_parser.specs.declared.lookahead.Goal.TheVariants as goal
 use Rattle.kt_parser.specs.declared.lookahead.Mode.{Mode}
 use Rattle.kt_parser.specs.declared.lookahead.Mode.TheVariants as mode
 use Rattle.kt_parser.specs.declared.lookahead.Place.{Place}
-use Rattle.kt_parser.specs.Tokens.{is_op, is_word, is_name, is_out, is_catch, is_finally, is_dot, is_postfix, unmarked, begins_type, begins_trailing}
+use Rattle.kt_parser.specs.Tokens.{is_op, is_word, is_name, is_out, is_catch, is_finally, is_dot, is_postfix, is_local, is_modifier_name, begins_parameter, unmarked, begins_type, begins_trailing}
 
 -- ---- types that go on or end by what stands behind them
 
@@ -206,3 +206,19 @@ else_at_end otherwise = true
 
 abbrev pub else_follows : Test Token
 else_follows = scan else_step else_at_end body_end refl
+
+-- ---- the modifiers of a parameter: a word is one where the parameter goes on behind it
+
+pub data Word : Type 0 where
+  begun : Word
+  modifier : Word
+
+abbrev pub modifier_step : Word → Token → Step Word
+modifier_step begun t = if is_word keyword.In t then stop true else if is_modifier_name t then go modifier else stop false
+modifier_step modifier t = stop (begins_parameter t || is_local t)
+
+abbrev pub no_modifier : Word → Bool
+no_modifier w = false
+
+abbrev pub modifier_follows : Test Token
+modifier_follows = scan modifier_step no_modifier begun refl

@@ -1,16 +1,61 @@
--- The grammar of types, expressions and statements, one equation a row. A mark is part of a token, so where a token must stand on the
--- line of the one before, its test says so.
-use Rattle.std.specs.Prelude.{Bool, ◌||◌}
+-- The grammar of files, declarations, statements, expressions and types, one equation a row. A mark is part of a token, so where a
+-- token must stand on the line of the one before, its test says so.
+use Rattle.std.specs.Prelude.{Bool, true, false, not, ◌&&◌, ◌||◌}
 use Rattle.grammars.specs.Grammar.{Test, next, Part, nothing, one, row, both, choose, many, guard}
 use Rattle.kt_lexer.specs.declared.token.Token.{Token}
 use Rattle.kt_lexer.specs.declared.token.Keyword.{Keyword}
 use Rattle.kt_lexer.specs.declared.token.Keyword.TheVariants as keyword
 use Rattle.kt_lexer.specs.declared.token.Operator.{Operator}
 use Rattle.kt_lexer.specs.declared.token.Operator.TheVariants as operator
-use Rattle.kt_parser.specs.Tokens.{is_op, is_word, is_name, is_out, is_catch, is_finally, is_label, is_label_use, unmarked, marked, is_atom, is_string_open, is_string_text, is_string_name, is_hole_open, is_hole_close, is_string_close, is_piece, is_jump, is_break, is_prefix, is_postfix, is_dot, is_equality, is_comparison, is_in, is_is, is_as, is_range, is_sum, is_product, is_assignment, is_local, is_loop, begins_type, begins_type_argument, begins_expression, begins_statement, begins_argument, begins_condition, begins_trailing}
-use Rattle.kt_parser.specs.Lookahead.{suffix_follows, argument_name, parameters, arguments_form, result_follows, out_type, catch_clause, finally_clause, else_follows}
+use Rattle.kt_parser.specs.Tokens.{is_op, is_word, is_name, is_out, is_catch, is_finally, is_label, is_label_use, unmarked, marked, is_atom, is_string_open, is_string_text, is_string_name, is_hole_open, is_hole_close, is_string_close, is_piece, is_jump, is_break, is_prefix, is_postfix, is_dot, is_equality, is_comparison, is_in, is_is, is_as, is_range, is_sum, is_product, is_assignment, is_local, is_loop, begins_type, begins_type_argument, begins_expression, begins_statement, begins_argument, begins_condition, begins_trailing, is_import, is_constructor, is_init, is_get, is_set, is_abstract, is_enum, is_modifier, is_modifier_name, begins_declaration, begins_parameter}
+use Rattle.kt_parser.specs.Lookahead.{suffix_follows, argument_name, parameters, arguments_form, result_follows, out_type, catch_clause, finally_clause, else_follows, modifier_follows}
+
+-- where a function or a property stands
+pub data Site : Type 0 where
+  top_level : Site
+  in_class : Site
+  in_interface : Site
 
 pub data Row : Type 0 where
+  file : Row
+  import_ : Row
+  import_path : Row
+  declarations : Row
+  more_declarations : Row
+  after_declaration : Row
+  -- whether `abstract` stands before it, and whether `enum` does
+  declaration : Bool → Bool → Row
+  -- whether `enum` stands before it
+  class_ : Bool → Row
+  interface_ : Row
+  object_ : Row
+  constructor_parameters : Row
+  constructor_parameter : Row
+  supertypes : Row
+  supertype : Row
+  enum_body : Row
+  constants : Row
+  constant : Row
+  class_body : Site → Row
+  members : Site → Row
+  more_members : Site → Row
+  after_member : Site → Row
+  member : Site → Row
+  -- whether `abstract` stands before it
+  modified_member : Bool → Site → Row
+  function : Bool → Site → Row
+  function_name : Site → Row
+  function_parameters : Row
+  function_parameter : Row
+  body : Row
+  property : Bool → Site → Row
+  -- whether the property is a `var`
+  accessors : Bool → Row
+  getter_head : Row
+  setter : Row
+  type_parameters : Row
+  more_type_parameters : Row
+  type_parameter : Row
   type_ : Row
   dotted : Row
   bracketed_type : Row
@@ -118,6 +163,102 @@ colon_type = maybe (is_op operator.Colon) (both (op operator.Colon) (row type_))
 abbrev pub value : Part Row Token
 value = both (op operator.Assign) (row expression)
 
+-- What the test picks stands on a line of its own or behind `;`. No `;` stands first, and behind one any number may.
+abbrev pub listed : (Token → Bool) → Row → Row → Part Row Token
+listed f n after = maybe f (both (row n) (row after))
+
+abbrev pub more_listed : (Token → Bool) → Row → Row → Row → Part Row Token
+more_listed f n more after = maybe (λ t. is_op operator.Semicolon t || f t)
+    (choose (next (is_op operator.Semicolon)) (both (op operator.Semicolon) (row more)) (both (row n) (row after)))
+
+abbrev pub listed_behind : (Token → Bool) → Row → Row → Row → Part Row Token
+listed_behind f n more after = maybe (λ t. is_op operator.Semicolon t || marked f t)
+    (choose (next (is_op operator.Semicolon)) (both (op operator.Semicolon) (row more)) (guard (next (marked f)) (both (row n) (row after))))
+
+-- ---- parts of declarations
+
+abbrev pub begins_member : Site → Token → Bool
+begins_member in_interface t = is_modifier t || (is_word keyword.Fun t || is_local t)
+begins_member site t = is_init t || (is_modifier t || (is_word keyword.Fun t || is_local t))
+
+-- behind the name of a receiver's type
+abbrev pub behind_receiver : Token → Bool
+behind_receiver t = is_op operator.Less t || (is_op operator.Question t || is_dot t)
+
+abbrev pub modifiers : Part Row Token
+modifiers = many modifier_follows (one is_modifier)
+
+-- a modifier by which the grammar does not go: of a declaration, of a member
+abbrev pub is_plain : Token → Bool
+is_plain t = is_modifier t && not (is_abstract t || is_enum t)
+
+abbrev pub is_plain_of_member : Token → Bool
+is_plain_of_member t = is_modifier t && not (is_abstract t)
+
+-- Behind a comma a line that begins with a modifier begins the next declaration.
+abbrev pub begins_supertype : Token → Bool
+begins_supertype t = begins_type t && not (marked is_modifier_name t)
+
+-- of a class, a function or an interface, where some are written
+abbrev pub parameters_of_type : Part Row Token
+parameters_of_type = maybe (is_op operator.Less) (row type_parameters)
+
+abbrev pub supers : Part Row Token
+supers = maybe (is_op operator.Colon) (both (op operator.Colon) (both (row supertype) (maybe (is_op operator.Comma) (both (op operator.Comma) (row supertypes)))))
+
+abbrev pub a_body : Row → Part Row Token
+a_body n = maybe (is_op operator.OpenBrace) (row n)
+
+abbrev pub written_arguments : Part Row Token
+written_arguments = maybe (is_op operator.OpenRound) (in_brackets (row arguments))
+
+abbrev pub primary_constructor : Part Row Token
+primary_constructor = maybe (λ t. is_constructor t || is_op operator.OpenRound t) (both (maybe is_constructor (one is_constructor)) (in_brackets (row constructor_parameters)))
+
+-- the body of a class, with constants first where it is an enum
+abbrev pub body_of_class : Bool → Row
+body_of_class true = enum_body
+body_of_class false = class_body in_class
+
+abbrev pub default : Part Row Token
+default = maybe (is_op operator.Assign) value
+
+-- none with `abstract`
+abbrev pub body_of_function : Bool → Part Row Token
+body_of_function true = nothing
+body_of_function false = maybe (λ t. is_op operator.OpenBrace t || is_op operator.Assign t) (row body)
+
+-- `=` and a value, or a getter and perhaps a setter
+abbrev pub value_or_accessors : Bool → Part Row Token
+value_or_accessors var = choose (next (is_op operator.Assign)) value (row (accessors var))
+
+-- what stands behind the name and the type of a property: nothing with `abstract`, something at the top of a file, no value in an interface
+abbrev pub property_value : Bool → Bool → Site → Part Row Token
+property_value var true site = nothing
+property_value var false top_level = value_or_accessors var
+property_value var false in_class = maybe (λ t. is_op operator.Assign t || is_get t) (value_or_accessors var)
+property_value var false in_interface = maybe is_get (row (accessors var))
+
+-- A `var` with a getter has a setter. Behind an expression it begins a line, since `set` is an infix name there else.
+abbrev pub setter_behind_block : Bool → Part Row Token
+setter_behind_block true = row setter
+setter_behind_block false = maybe is_set (row setter)
+
+abbrev pub setter_on_line : Part Row Token
+setter_on_line = guard (next (marked is_set)) (row setter)
+
+abbrev pub setter_behind_value : Bool → Part Row Token
+setter_behind_value true = setter_on_line
+setter_behind_value false = maybe (marked is_set) setter_on_line
+
+abbrev pub property_behind : Keyword → Bool → Bool → Site → Part Row Token
+property_behind k var abstract site = both (word k) (both (one is_name) (both colon_type (property_value var abstract site)))
+
+-- a function or a property; with `abstract` no property stands at the top of a file
+abbrev pub function_or_property : Bool → Part Row Token
+function_or_property true = row (function true top_level)
+function_or_property false = choose (next (is_word keyword.Fun)) (row (function false top_level)) (row (property false top_level))
+
 -- ---- what may follow an operand, level by level
 
 abbrev pub or_turns : Part Row Token
@@ -169,6 +310,51 @@ a_trailing = guard (next (unmarked begins_trailing)) (row trailing)
 -- ---- the rows
 
 abbrev pub grammar : Row → Part Row Token
+-- files
+grammar file = both (maybe (is_word keyword.Package) (both (word keyword.Package) (row dotted))) (both (many (next is_import) (row import_)) (row declarations))
+grammar import_ = both (one is_import) (row import_path)
+grammar import_path = both (one is_name) (maybe (is_op operator.Dot) (both (op operator.Dot) (choose (next (is_op operator.TimesBehindDot)) (op operator.TimesBehindDot) (row import_path))))
+-- declarations
+grammar declarations = listed begins_declaration (declaration false false) after_declaration
+grammar more_declarations = more_listed begins_declaration (declaration false false) more_declarations after_declaration
+grammar after_declaration = listed_behind begins_declaration (declaration false false) more_declarations after_declaration
+grammar (declaration abstract enum) = choose (next is_abstract) (both (one is_abstract) (row (declaration true enum))) (choose (next is_enum) (both (one is_enum) (row (declaration abstract true)))
+    (choose (next is_plain) (both (one is_plain) (row (declaration abstract enum))) (choose (next (is_word keyword.Class)) (row (class_ enum))
+    (choose (next (is_word keyword.Interface)) (row interface_) (choose (next (is_word keyword.Object)) (row object_) (function_or_property abstract))))))
+grammar (class_ enum) = both (word keyword.Class) (both (one is_name) (both parameters_of_type (both primary_constructor (both supers (a_body (body_of_class enum))))))
+grammar interface_ = both (word keyword.Interface) (both (one is_name) (both parameters_of_type (both supers (a_body (class_body in_interface)))))
+grammar object_ = both (word keyword.Object) (both (one is_name) (both supers (a_body (class_body in_class))))
+grammar constructor_parameters = maybe (λ t. is_local t || begins_parameter t) (both (row constructor_parameter) (maybe (is_op operator.Comma) (both (op operator.Comma) (row constructor_parameters))))
+grammar constructor_parameter = both modifiers (both (maybe is_local (one is_local)) (both (one is_name) (both (op operator.Colon) (both (row type_) default))))
+grammar supertypes = maybe begins_supertype (guard (next begins_supertype) (both (row supertype) (maybe (is_op operator.Comma) (both (op operator.Comma) (row supertypes)))))
+grammar supertype = both (row type_) written_arguments
+grammar enum_body = both (op operator.OpenBrace) (both (row constants) (both (maybe (is_op operator.Semicolon) (both (op operator.Semicolon) (row (members in_class)))) (op operator.CloseBrace)))
+grammar constants = maybe is_name (both (row constant) (maybe (is_op operator.Comma) (both (op operator.Comma) (row constants))))
+grammar constant = both (one is_name) written_arguments
+grammar (class_body site) = both (op operator.OpenBrace) (both (row (members site)) (op operator.CloseBrace))
+grammar (members site) = listed (begins_member site) (member site) (after_member site)
+grammar (more_members site) = more_listed (begins_member site) (member site) (more_members site) (after_member site)
+grammar (after_member site) = listed_behind (begins_member site) (member site) (more_members site) (after_member site)
+-- an interface has no `init` block
+grammar (member in_interface) = row (modified_member false in_interface)
+grammar (member site) = choose (next is_init) (both (one is_init) (row block)) (row (modified_member false site))
+grammar (modified_member abstract site) = choose (next is_abstract) (both (one is_abstract) (row (modified_member true site))) (choose (next is_plain_of_member) (both (one is_plain_of_member) (row (modified_member abstract site)))
+    (choose (next (is_word keyword.Fun)) (row (function abstract site)) (row (property abstract site))))
+grammar (function abstract site) = both (word keyword.Fun) (both parameters_of_type (both (row (function_name site)) (both (in_brackets (row function_parameters)) (both colon_type (body_of_function abstract)))))
+-- with a receiver only at the top of a file
+grammar (function_name top_level) = choose (next (is_op operator.OpenRound)) (both (in_brackets (row type_)) (both (op operator.Dot) (one is_name)))
+    (both (one is_name) (maybe behind_receiver (both (maybe (is_op operator.Less) (row type_arguments)) (both question_marks (both (one is_dot) (one is_name))))))
+grammar (function_name site) = one is_name
+grammar function_parameters = maybe begins_parameter (both (row function_parameter) (maybe (is_op operator.Comma) (both (op operator.Comma) (row function_parameters))))
+grammar function_parameter = both modifiers (both (one is_name) (both (op operator.Colon) (both (row type_) default)))
+grammar body = choose (next (is_op operator.OpenBrace)) (row block) value
+grammar (property abstract site) = choose (next (is_word keyword.Var)) (property_behind keyword.Var true abstract site) (property_behind keyword.Val false abstract site)
+grammar (accessors var) = both (row getter_head) (choose (next (is_op operator.OpenBrace)) (both (row block) (setter_behind_block var)) (both value (setter_behind_value var)))
+grammar getter_head = both (one is_get) (both (op operator.OpenRound) (both (op operator.CloseRound) colon_type))
+grammar setter = both (one is_set) (both (in_brackets (one is_name)) (row body))
+grammar type_parameters = both (op operator.Less) (both (row type_parameter) (both (row more_type_parameters) (op operator.Greater)))
+grammar more_type_parameters = maybe (is_op operator.Comma) (both (op operator.Comma) (maybe begins_parameter (both (row type_parameter) (row more_type_parameters))))
+grammar type_parameter = both modifiers (both (one is_name) colon_type)
 -- types
 grammar type_ = a_type (next (is_op operator.Less)) bracketed_type
 grammar bracketed_type = brackets (next (is_op operator.Arrow)) type_

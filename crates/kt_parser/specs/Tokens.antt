@@ -132,6 +132,35 @@ is_finally t = class_of t.kind == 85
 abbrev pub is_out : Token → Bool
 is_out t = class_of t.kind == 86
 
+-- the words of members and files
+abbrev pub is_get : Token → Bool
+is_get t = class_of t.kind == 87
+
+abbrev pub is_set : Token → Bool
+is_set t = class_of t.kind == 88
+
+abbrev pub is_init : Token → Bool
+is_init t = class_of t.kind == 89
+
+abbrev pub is_constructor : Token → Bool
+is_constructor t = class_of t.kind == 90
+
+abbrev pub is_import : Token → Bool
+is_import t = class_of t.kind == 91
+
+abbrev pub is_abstract : Token → Bool
+is_abstract t = class_of t.kind == 97
+
+abbrev pub is_enum : Token → Bool
+is_enum t = class_of t.kind == 100
+
+-- `out`, and the words from `public` to `reified`
+abbrev pub is_modifier_name : Token → Bool
+is_modifier_name t = is_out t || (nat_lt 91 (class_of t.kind) && nat_lt (class_of t.kind) 110)
+
+abbrev pub is_modifier : Token → Bool
+is_modifier t = is_word keyword.In t || is_modifier_name t
+
 abbrev pub is_label : Token → Bool
 is_label t = class_of t.kind == 74
 
@@ -260,3 +289,11 @@ begins_condition t = is_in t || (is_is t || begins_expression t)
 -- a lambda behind a call, with its label
 abbrev pub begins_trailing : Token → Bool
 begins_trailing t = is_label t || is_op operator.OpenBrace t
+
+-- modifiers, `class`, `interface`, `object`, `fun`, `val`, `var`
+abbrev pub begins_declaration : Token → Bool
+begins_declaration t = is_modifier t || is_one_of (46 ∷ 56 ∷ 60 ∷ 52 ∷ 70 ∷ 71 ∷ []) (class_of t.kind)
+
+-- of a function or of a type: its modifiers or its name
+abbrev pub begins_parameter : Token → Bool
+begins_parameter t = is_word keyword.In t || is_name t

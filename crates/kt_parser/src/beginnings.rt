@@ -4,6 +4,7 @@ ghost use Rattle.grammars.specs.Grammar.{first, test};
 ghost use Rattle.kt_lexer.specs.declared.token.TokenKind.TheVariants as token_kinds;
 ghost use Rattle.kt_parser.specs.Beginnings.{of_kind};
 ghost use Rattle.kt_parser.specs.Tokens as tokens_of;
+ghost use Rattle.kt_parser.specs.Tokens.{unmarked};
 
 use crate::tokens::is_op_at;
 use kt_lexer::{Keyword, Operator, Token, TokenKind};
@@ -63,6 +64,16 @@ pub fn begins_expression(tokens: &[Token], at: usize) -> bool
 {
     match tokens.get(at) {
         Some(token) => kind_begins(&token.kind),
+        None => false,
+    }
+}
+
+/// Whether an expression begins at the place, on the same line.
+pub fn begins_operand(tokens: &[Token], at: usize) -> bool
+    ensures { result ≡ test (unmarked tokens_of.begins_expression) (first (drop at tokens.now)) }
+{
+    match tokens.get(at) {
+        Some(token) => kind_begins(&token.kind) && !token.marked,
         None => false,
     }
 }

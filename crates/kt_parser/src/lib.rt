@@ -1,4 +1,5 @@
-//! The grammar of types, expressions and statements, and the parser of types (Kotlin Language Specification 1.9, "Syntax grammar").
+//! The grammar of files, declarations, statements, expressions and types, and the parser of types, of operators and of lists of
+//! expressions (Kotlin Language Specification 1.9, "Syntax grammar").
 #![tactic(auto)]
 
 mod arguments;
@@ -10,27 +11,30 @@ mod locals;
 mod lookahead;
 mod nodes;
 mod operands;
+mod operators;
 mod signs;
 mod tokens;
 mod types;
 
+ghost use Rattle.kt_parser.specs.DeclarationExamples.{FilesRead, ClassesRead, MembersRead, FilesBuilt};
 ghost use Rattle.kt_parser.specs.Examples.{OperatorsRead, CallsRead, TypeArgumentsRead, ElsesRead, StatementsRead, FunctionTypesRead, MarksRead, ListsRead, ComparisonsRead, ClausesRead, TreesBuilt, PlacesBuilt};
 
 pub use arguments::Operands;
 pub use arrows::type_before_arrow;
 pub use beginnings::{begins_argument, begins_expression};
 pub use casts::{cast_turns, typed_turn};
-pub use cursor::Cursor;
+pub use cursor::{Cursor, behind, eat_op_on, expect_op_on};
 pub use locals::{bare_names, colon_type, names, typed_name};
 pub use lookahead::{
-    are_parameters, arguments_form, else_follows, is_argument_name, is_catch_clause,
+    Look, are_parameters, arguments_form, else_follows, is_argument_name, is_catch_clause,
     is_finally_clause, result_follows, suffix_follows,
 };
 pub use operands::operand_type;
+pub use operators::Operators;
 pub use tokens::{
     begins_type, begins_type_argument, class, eat, eat_name, eat_op, eat_out, eat_unmarked,
-    eat_word, expect_name, expect_op, is_at, is_op_at, is_unmarked_at, keyword_class, name_class,
-    operator_class, span_between, word_at,
+    eat_word, expect_name, expect_op, is_at, is_name_at, is_op_at, is_unmarked_at, keyword_class,
+    name_class, operator_class, span_between, word_at,
 };
 pub use types::{dotted, type_arguments, type_at};
 
@@ -94,7 +98,22 @@ pub fn places_are_built()
     ensures { PlacesBuilt }
 {}
 
-#[cfg(test)]
-mod list_tests;
-#[cfg(test)]
-mod tests;
+/// Files: lines and `;` between declarations, the package and imports.
+pub fn files_are_read()
+    ensures { FilesRead }
+{}
+
+/// Classes, interfaces and enums.
+pub fn classes_are_read()
+    ensures { ClassesRead }
+{}
+
+/// Receivers, parameters, accessors, and what is left out behind `abstract`.
+pub fn members_are_read()
+    ensures { MembersRead }
+{}
+
+/// The trees of small files, with places.
+pub fn files_are_built()
+    ensures { FilesBuilt }
+{}

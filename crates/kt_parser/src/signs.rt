@@ -1,21 +1,90 @@
-//! The tokens that stand for operators.
+//! The tokens that stand for operators (Kotlin Language Specification 1.9, "Operator precedence").
 ghost use Rattle.std.specs.Prelude.{◌≡◌, ◌≤◌, Some, length, drop};
-ghost use Rattle.grammars.specs.Grammar.{first};
+ghost use Rattle.grammars.specs.Grammar.{first, test};
 ghost use Rattle.kt_parser.specs.Signs as spec;
 ghost use Rattle.kt_parser.specs.Tokens as tokens_of;
 
 use crate::cursor::Cursor;
-use crate::tokens::is_word;
+use crate::tokens::{class, is_op, is_word};
 use kc_text::Fail;
-use kt_lexer::{Keyword, Token};
+use kt_lexer::{Keyword, Operator, Token};
 
-/// What stands between an operand and a type.
+/// The operators that may stand between any number of operands, from those that bind weakest.
+#[derive(Clone, Copy)]
+pub enum Level {
+    Or,
+    And,
+    Equality,
+    Elvis,
+    Range,
+    Sum,
+    Product,
+}
+
+/// What stands before or behind an operand.
 #[derive(Clone, Copy)]
 pub enum Sign {
+    Between(Level),
+    /// `<`, `>`, `<=`, `>=`
+    Comparison,
+    /// The name of a function.
+    Name,
+    /// `in`, `!in`
+    In,
     /// `is`, `!is`
     Is,
     /// `as`, `as?`
     Cast,
+    /// `-`, `+`, `!`, `++`, `--`
+    Prefix,
+}
+
+fn is_equality(token: &Token) -> bool
+    ensures { result ≡ tokens_of.is_equality token.now }
+{
+    is_op(token, Operator::EqualEqual)
+        || is_op(token, Operator::NotEqual)
+        || is_op(token, Operator::Identical)
+        || is_op(token, Operator::NotIdentical)
+}
+
+fn is_comparison(token: &Token) -> bool
+    ensures { result ≡ tokens_of.is_comparison token.now }
+{
+    is_op(token, Operator::Less)
+        || is_op(token, Operator::Greater)
+        || is_op(token, Operator::LessEqual)
+        || is_op(token, Operator::GreaterEqual)
+}
+
+fn is_range(token: &Token) -> bool
+    ensures { result ≡ tokens_of.is_range token.now }
+{
+    is_op(token, Operator::Range) || is_op(token, Operator::RangeUntil)
+}
+
+fn is_sum(token: &Token) -> bool
+    ensures { result ≡ tokens_of.is_sum token.now }
+{
+    is_op(token, Operator::Plus) || is_op(token, Operator::Minus)
+}
+
+fn is_product(token: &Token) -> bool
+    ensures { result ≡ tokens_of.is_product token.now }
+{
+    is_op(token, Operator::Times)
+        || is_op(token, Operator::Divide)
+        || is_op(token, Operator::Remainder)
+}
+
+fn is_prefix(token: &Token) -> bool
+    ensures { result ≡ tokens_of.is_prefix token.now }
+{
+    is_op(token, Operator::Minus)
+        || is_op(token, Operator::Plus)
+        || is_op(token, Operator::Not)
+        || is_op(token, Operator::Increment)
+        || is_op(token, Operator::Decrement)
 }
 
 fn is_as(token: &Token) -> bool
@@ -24,18 +93,44 @@ fn is_as(token: &Token) -> bool
     is_word(token, Keyword::As) || is_word(token, Keyword::AsSafe)
 }
 
+fn is_in(token: &Token) -> bool
+    ensures { result ≡ tokens_of.is_in token.now }
+{
+    is_word(token, Keyword::In) || is_word(token, Keyword::NotIn)
+}
+
 fn is_is(token: &Token) -> bool
     ensures { result ≡ tokens_of.is_is token.now }
 {
     is_word(token, Keyword::Is) || is_word(token, Keyword::NotIs)
 }
 
+/// Whether the token is an operator of the level, on the same line where the level needs that.
+fn is_between(token: &Token, level: Level) -> bool
+    ensures { result ≡ spec.is_between level token.now }
+{
+    match level {
+        Level::Or => is_op(token, Operator::Or),
+        Level::And => is_op(token, Operator::And),
+        Level::Equality => is_equality(token) && !token.marked,
+        Level::Elvis => is_op(token, Operator::Elvis),
+        Level::Range => is_range(token) && !token.marked,
+        Level::Sum => is_sum(token) && !token.marked,
+        Level::Product => is_product(token) && !token.marked,
+    }
+}
+
 fn is_sign(token: &Token, sign: Sign) -> bool
     ensures { result ≡ spec.is_sign sign token.now }
 {
     match sign {
+        Sign::Between(level) => is_between(token, level),
+        Sign::Comparison => is_comparison(token) && !token.marked,
+        Sign::Name => class(&token.kind) > 83 && !token.marked,
+        Sign::In => is_in(token) && !token.marked,
         Sign::Is => is_is(token) && !token.marked,
         Sign::Cast => is_as(token) && !token.marked,
+        Sign::Prefix => is_prefix(token),
     }
 }
 
@@ -85,5 +180,15 @@ pub fn expect_sign(
     match eat_sign(tokens, at, sign) {
         Some(taken) => Ok(taken),
         None => Err(at.fault()),
+    }
+}
+
+/// Whether `in`, `!in`, `is` or `!is` stands at the place, on the same line.
+pub fn is_relation_at(tokens: &[Token], at: usize) -> bool
+    ensures { result ≡ test spec.is_relation (first (drop at tokens.now)) }
+{
+    match tokens.get(at) {
+        Some(token) => (is_in(token) || is_is(token)) && !token.marked,
+        None => false,
     }
 }

@@ -1,5 +1,5 @@
 -- An expression that is one name, before a comma or at the end of the tokens, for the tests.
-use Rattle.std.proofs.Common.{◌≡◌, ℕ, suc, ◌≤◌, ◌==◌, nat_lt, max, Bool, true, false, not, ◌&&◌, ◌||◌, if◌then◌else◌, List, [], ◌∷◌, length, drop, Ok, Option, Some, None, refl, sym, ap, subst, ◌∙◌, arith}
+use Rattle.std.proofs.Common.{◌≡◌, ℕ, suc, ◌≤◌, ◌==◌, nat_lt, ◌+◌, max, Bool, true, false, not, ◌&&◌, ◌||◌, if◌then◌else◌, List, [], ◌∷◌, length, drop, Ok, Option, Some, None, refl, sym, ap, subst, ◌∙◌, arith}
 use Rattle.std.proofs.lemmas.Bool.{eqb-true}
 use Rattle.grammars.specs.Automata.{Step, go, stop, accepts, goes}
 use Rattle.grammars.specs.Grammar.{Part, next, row, both, choose, many, Cst, none, leaf, node, pair, left, right, first, test, r_done, d_nothing, d_row, d_left, d_right, d_done, Productive}
@@ -93,8 +93,8 @@ no_suffix_far : (us : List Token) → Closing (first us) → suffix_follows.far 
 no_suffix_far [] k = refl
 no_suffix_far (t ∷ us) (at_comma e) = ap (λ s. elim s as (λ _. ℕ) [ go s' ↦ suc (goes (tests.step goal.BeforeCall) (tests.at_end goal.BeforeCall) us s') | stop b ↦ 0 ]) (stops t e)
 
-no_suffixes : (ts : List Token) (at : ℕ) → at ≤ length ts → Closing (first (drop at ts)) → Read (many suffix_follows (row rows.suffix)) ts at at 0 none
-no_suffixes ts at w k = near (r_done (no_suffix (drop at ts) k)) (omega (arith, no_suffix_far (drop at ts) k)) (omega arith) w
+no_suffixes : (ts : List Token) (at : ℕ) → at ≤ length ts → suffix_follows.holds (drop at ts) ≡ false → suffix_follows.far (drop at ts) ≡ 0 → Read (many suffix_follows (row rows.suffix)) ts at at 0 none
+no_suffixes ts at w h e = near (r_done h) (omega (arith, e)) (omega arith) w
 
 -- ---- nothing stands behind an operand
 
@@ -103,6 +103,26 @@ alone : (n m : Row) (part : Part Row Token) (lower : Cst Token → Expr) (turns 
     → Advanced (row m) lower ts start end x → Read part ts end.at end.at 0 d → Advanced (row n) whole ts start end x
 alone n m part lower turns whole is law d none_is {end = end} {x = x} p q =
     level_from n m part lower turns whole is law p (Ok (x, end)) (record { tree = d; looked = 0; read = q; builds = sym (none_is x); so_far = omega arith })
+
+postfix_from : {ts : List Token} {start : Cursor} {next : ℕ} {w : Word} → NameTaken ts start.at next w → suffix_follows.holds (drop next ts) ≡ false → suffix_follows.far (drop next ts) ≡ 0
+    → Advanced (row rows.postfix) built.postfix_of ts start (record { at = next; looked = start.looked }) (record { span = w.span; kind = e.Name w.name })
+postfix_from {ts = ts} {start = start} {next = next} k h n =
+    let end : Cursor = record { at = next; looked = start.looked } in
+    alone rows.postfix rows.primary (many suffix_follows (row rows.suffix)) built.primary_of built.suffixes_of built.postfix_of refl (λ x d. refl) none (λ x. refl)
+    (primary_from {start = start} {end = end} k refl) (no_suffixes ts next k.taken.within h n)
+
+both_hold : (a b : Bool) → (not a && b) ≡ true → (a ≡ false) × (b ≡ true)
+both_hold true b h = absurd (cc)
+both_hold false b h = (refl, h)
+
+-- where a test for a suffix has looked at the next token alone
+pub bare_name : {ts : List Token} {start : Cursor} {next : ℕ} {w : Word} (end : Cursor) (b : Bool) (n : ℕ) → NameTaken ts start.at next w → b ≡ suffix_follows.holds (drop next ts)
+    → n ≡ next + suffix_follows.far (drop next ts) → (not b && n == next) ≡ true → end ≡ record { at = next; looked = start.looked }
+    → Advanced (row rows.postfix) built.postfix_of ts start end (record { span = w.span; kind = e.Name w.name })
+bare_name {ts = ts} {start = start} {next = next} {w = w} end b n k h i j m =
+    let q = both_hold b (n == next) j in
+    let z : n ≡ next = eqb-true n next q.1 in
+    subst (λ (c : Cursor). Advanced (row rows.postfix) built.postfix_of ts start c (record { span = w.span; kind = e.Name w.name })) (sym m) (postfix_from k (sym h ∙ q.0) (omega (arith, i, z)))
 
 prefix_from : {ts : List Token} {start end : Cursor} {x : Expr} → test is_name (first (drop start.at ts)) ≡ true → Advanced (row rows.postfix) built.postfix_of ts start end x
     → Advanced (row rows.prefix) built.prefix_of ts start end x
@@ -119,9 +139,7 @@ pub name_alone : {ts : List Token} {start : Cursor} {next : ℕ} {w : Word} (end
 name_alone {ts = ts} {start = start} {next = next} {w = w} end k c e' = subst (λ (m : Cursor). Advanced (row rows.expression) built.expression_of ts start m (record { span = w.span; kind = e.Name w.name })) (sym e') (
     let o = first (drop next ts) in
     let v : next ≤ length ts = k.taken.within in
-    let end : Cursor = record { at = next; looked = start.looked } in
-    let p1 = primary_from {start = start} {end = end} k refl in
-    let p2 = alone rows.postfix rows.primary (many suffix_follows (row rows.suffix)) built.primary_of built.suffixes_of built.postfix_of refl (λ x d. refl) none (λ x. refl) p1 (no_suffixes ts next v c) in
+    let p2 = postfix_from k (no_suffix (drop next ts) c) (no_suffix_far (drop next ts) c) in
     let p3 = prefix_from (standing k.taken) p2 in
     let p4 = alone rows.cast rows.prefix rows.cast_turns built.prefix_of built.cast_turns_of built.cast_of refl (λ x d. refl) none (λ x. refl) p3 (read_done v (not_unmarked_of (43 ∷ 44 ∷ []) refl o c)) in
     let p5 = alone rows.product rows.cast rows.product_turns built.cast_of built.product_turns_of built.product_of refl (λ x d. refl) none (λ x. refl) p4 (read_done v (not_unmarked_of (23 ∷ 25 ∷ 26 ∷ []) refl o c)) in
@@ -149,10 +167,12 @@ no_primary {ts = ts} {start = start} w k i =
     (halts_right w (closed (λ n b. n == 72) (λ b. refl) o k) (halts_right w (closed (λ n b. n == 67) (λ b. refl) o k) (halts_right w (not_of (62 ∷ 45 ∷ 47 ∷ 65 ∷ []) refl o k)
     (halts_row (halts_first has_rest_of_lambda (not_one (op_token operator.OpenBrace) (is_itself operator.OpenBrace) w (closed (λ n b. n == 41) (λ b. refl) o k) i))))))))))))
 
+pub no_postfix : {ts : List Token} {start : Cursor} {x : Fail ℕ} → start.at ≤ length ts → Closing (first (drop start.at ts)) → x ≡ (let y : Fail ℕ = Found (max start.looked start.at) in y) → Halts (row rows.postfix) ts start x
+no_postfix w k i = halts_row {n = rows.postfix} (halts_first ([], none, d_done) (no_primary w k i))
+
 pub none_begins : {ts : List Token} {start : Cursor} {x : Fail ℕ} → start.at ≤ length ts → Closing (first (drop start.at ts)) → x ≡ (let y : Fail ℕ = Found (max start.looked start.at) in y) → Halts (row rows.expression) ts start x
 none_begins {ts = ts} {start = start} w k i =
-    let p1 = halts_row {n = rows.postfix} (halts_first ([], none, d_done) (no_primary w k i)) in
-    let p2 = halts_row {n = rows.prefix} (halts_right w (not_of (22 ∷ 21 ∷ 30 ∷ 9 ∷ 10 ∷ []) refl (first (drop start.at ts)) k) p1) in
+    let p2 = halts_row {n = rows.prefix} (halts_right w (not_of (22 ∷ 21 ∷ 30 ∷ 9 ∷ 10 ∷ []) refl (first (drop start.at ts)) k) (no_postfix w k i)) in
     let p3 = level_halts rows.cast rows.prefix rows.cast_turns refl ([], none, d_done) p2 in
     let p4 = level_halts rows.product rows.cast rows.product_turns refl ([], none, d_done) p3 in
     let p5 = level_halts rows.sum rows.product rows.sum_turns refl ([], none, d_done) p4 in

@@ -7,18 +7,18 @@ ghost use Rattle.kt_parser.specs.Parsed.{Advances};
 ghost use Rattle.kt_parser.specs.Rows as rows;
 ghost use Rattle.kt_parser.specs.Tokens.{is_op};
 
-use super::*;
-use crate::tests::cut;
+use crate::type_tests::cut;
 use kc_text::Fail;
 use kc_tree::{Arg, Expr, ExprKind};
 use kt_lexer::{Operator, Token};
+use kt_parser::*;
 use sqlite_items::Items;
 use std::alloc::Global;
 use std::process::Abort;
 use std::test::Fail as Failed;
 
 /// Whether a token stands at the place that is no comma.
-fn goes_on(tokens: &[Token], at: usize) -> bool
+pub fn goes_on(tokens: &[Token], at: usize) -> bool
     ensures { result ≡ test (λ t. not (is_op operators.Comma t)) (first (drop at tokens.now)) }
 {
     match tokens.get(at) {

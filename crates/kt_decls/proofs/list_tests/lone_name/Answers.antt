@@ -1,9 +1,9 @@
 use Rattle.std.proofs.Common.{sym, ◌∙◌, ◌+◌, drop}
 use Rattle.grammars.specs.Grammar.{first}
 use Rattle.kt_parser.specs.Parsed.{halt_memory}
-use Rattle.kt_parser.proofs.LoneNames.{closing, none_begins, name_alone}
+use Rattle.kt_decls.proofs.LoneNames.{closing, none_begins, name_alone}
 use Rattle.kt_parser.proofs.SingleTokens.{takes_name}
-use Rattle.kt_parser.proofs.list_tests.lone_name.Goals as goal
+use Rattle.kt_decls.proofs.list_tests.lone_name.Goals as goal
 
 pub returns-then-not-goes_on : goal.returns-then-not-goes_on
 returns-then-not-goes_on c = none_begins c.requires (closing (first (drop c.args.at.at c.args.tokens.now)) (sym c.goes_on.ensures ∙ c.if-not-goes_on.true)) c.fault.ensures
