@@ -1,0 +1,14 @@
+use Rattle.std.proofs.lemmas.Result.{err_from_is_err_and}
+use Rattle.kt_parser.proofs.Advances.{halts_first, halts_after}
+use Rattle.kt_bodies.proofs.StatementRows.{has_to_brace}
+use Rattle.kt_bodies.proofs.LambdaRows.{arrow_from}
+use Rattle.kt_bodies.proofs.bodies.Bodies.behind_parameters.Goals as goal
+
+pub returns-in_err-next : goal.returns-in_err-next
+returns-in_err-next g c = let p = err_from_is_err_and c.from_residual.result c.from_residual.ensures.1 in rw (p.1, p.2) (halts_first has_to_brace c.in_err-next.ensures)
+
+pub returns-in_err-body : goal.returns-in_err-body
+returns-in_err-body g c = let p = err_from_is_err_and c.from_residual-in_err-body.result c.from_residual-in_err-body.ensures.1 in rw (p.1, p.2) (halts_after c.in_ok-next.ensures.taken c.in_ok-next.ensures.so_far c.in_err-body.ensures)
+
+pub returns : goal.returns
+returns g c = arrow_from c.args.params c.in_ok-next.ensures c.in_ok-body.ensures

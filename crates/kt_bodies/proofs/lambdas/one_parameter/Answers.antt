@@ -1,0 +1,17 @@
+use Rattle.std.proofs.lemmas.Result.{err_from_is_err_and}
+use Rattle.kt_parser.specs.Parsed.{halt_memory}
+use Rattle.kt_parser.proofs.Advances.{halts_first, halts_after}
+use Rattle.kt_bodies.proofs.LambdaRows.{has_no_colon, parameter_from}
+use Rattle.kt_bodies.proofs.lambdas.one_parameter.Goals as goal
+
+pub returns-in_err-name : goal.returns-in_err-name
+returns-in_err-name c = let p = err_from_is_err_and c.from_residual.result c.from_residual.ensures.1 in rw (p.1, p.2) (halts_first has_no_colon c.in_err-name.ensures)
+
+pub returns-in_err-ty : goal.returns-in_err-ty
+returns-in_err-ty c = let p = err_from_is_err_and c.from_residual-in_err-ty.result c.from_residual-in_err-ty.ensures.1 in rw (p.1, p.2) (halts_after c.in_ok-name.ensures.taken c.in_ok-name.ensures.so_far c.in_err-ty.ensures)
+
+pub returns-in_err-push : goal.returns-in_err-push
+returns-in_err-push c = let p = err_from_is_err_and c.from_residual-in_err-push.result c.from_residual-in_err-push.ensures.1 in rw (p.1, p.2) (halt_memory)
+
+pub returns : goal.returns
+returns c = parameter_from c.args.before c.push.new.self c.in_ok-name.ensures c.in_ok-ty.ensures c.in_ok-push.ensures.ok
