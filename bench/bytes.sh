@@ -1,7 +1,8 @@
 #!/usr/bin/env bash
 # Times the reader and the writer of class files on generated classes of growing size, by the program of crates/class_copy, and prints
 # the seconds and how they grow when the class doubles: methods with long code, then methods whose many frames all have many locals,
-# which the bytes spell once. A class with a byte behind its end is read whole and then refused, which is the time of reading alone.
+# which the bytes spell once, then methods whose frames name a class with a long name many times, for which the program gets 512 MiB.
+# A class with a byte behind its end is read whole and then refused, which is the time of reading alone.
 # Needs the Rattle kit.
 set -eu
 top=$(cd "$(dirname "${BASH_SOURCE[0]}")/.." && pwd)
@@ -71,6 +72,31 @@ framed() {
     printf '\0\0'
 }
 
+# one method with so many frames, each of which names a class of 2,000 letters 60,000 times
+named() {
+    begin 11
+    text m
+    text StackMapTable
+    text "$(head -c 2000 /dev/zero | tr '\0' L)"
+    printf '\x07\0\x09'
+    printf '\0\x21\0\x02\0\x04\0\0\0\0\0\x01\0\x09\0\x07\0\x05\0\x01\0\x06'
+    local table=$((2 + $1 * (7 + 3 * 60000)))
+    u4 $((12 + 65535 + 6 + table))
+    printf '\0\0\xff\xff'
+    u4 65535
+    head -c 65534 /dev/zero
+    printf '\xb1\0\0\0\x01\0\x08'
+    u4 "$table"
+    u2 "$1"
+    for ((i = 0; i < $1; i++)); do
+        printf '\xff\0\0'
+        u2 60000
+        printf '\x07\0\x0a%.0s' {1..60000}
+        printf '\0\0'
+    done
+    printf '\0\0'
+}
+
 # milliseconds that the program takes for a file
 took() {
     local start end
@@ -104,5 +130,12 @@ before=
 echo 'frames  read  and written  ratio  told'
 for size in 4000 8000 16000 32000 64000; do
     framed "$size" >M.class
+    row "$size"
+done
+before=
+ulimit -v 524288
+echo 'frames  read  and written  ratio  told'
+for size in 1 2 4 8; do
+    named "$size" >M.class
     row "$size"
 done
