@@ -50,20 +50,24 @@ class() {
     printf '\0\0'
 }
 
+# one method of 65,535 bytes of code, up to the frames of its stack map: so many bytes, and so many frames
+mapped() {
+    printf '\0\x21\0\x02\0\x04\0\0\0\0\0\x01\0\x09\0\x07\0\x05\0\x01\0\x06'
+    u4 $((12 + 65535 + 6 + $1))
+    printf '\0\0\xff\xff'
+    u4 65535
+    head -c 65534 /dev/zero
+    printf '\xb1\0\0\0\x01\0\x08'
+    u4 "$1"
+    u2 "$2"
+}
+
 # one method with so many frames, each with 60,000 locals: the first frame tells them all, the others that they are the same
 framed() {
     begin 9
     text m
     text StackMapTable
-    printf '\0\x21\0\x02\0\x04\0\0\0\0\0\x01\0\x09\0\x07\0\x05\0\x01\0\x06'
-    local table=$((2 + 7 + 60000 + $1 - 1))
-    u4 $((12 + 65535 + 6 + table))
-    printf '\0\0\xff\xff'
-    u4 65535
-    head -c 65534 /dev/zero
-    printf '\xb1\0\0\0\x01\0\x08'
-    u4 "$table"
-    u2 "$1"
+    mapped $((2 + 7 + 60000 + $1 - 1)) "$1"
     printf '\xff\0\0'
     u2 60000
     head -c 60000 /dev/zero | tr '\0' '\1'
@@ -79,15 +83,7 @@ named() {
     text StackMapTable
     text "$(head -c 2000 /dev/zero | tr '\0' L)"
     printf '\x07\0\x09'
-    printf '\0\x21\0\x02\0\x04\0\0\0\0\0\x01\0\x09\0\x07\0\x05\0\x01\0\x06'
-    local table=$((2 + $1 * (7 + 3 * 60000)))
-    u4 $((12 + 65535 + 6 + table))
-    printf '\0\0\xff\xff'
-    u4 65535
-    head -c 65534 /dev/zero
-    printf '\xb1\0\0\0\x01\0\x08'
-    u4 "$table"
-    u2 "$1"
+    mapped $((2 + $1 * (7 + 3 * 60000))) "$1"
     for ((i = 0; i < $1; i++)); do
         printf '\xff\0\0'
         u2 60000
