@@ -234,13 +234,11 @@ fn told(alloc: Global, source: &str) -> Result<String, Failed> {
     let found = cut(alloc, source)?;
     let tokens = found.as_slice();
     let line = format!(in alloc;
-        "{} {} {} {} {} {}",
+        "{} {} {} {}",
         suffix_follows(alloc, tokens, 1)?.holds,
         arguments_form(alloc, tokens, 1)?.holds,
         result_follows(alloc, tokens, 1)?.holds,
-        else_follows(tokens, 1),
-        is_catch_clause(tokens, 1),
-        is_finally_clause(tokens, 1)
+        else_follows(tokens, 1)
     )?;
     Ok(line)
 }
@@ -248,22 +246,16 @@ fn told(alloc: Global, source: &str) -> Result<String, Failed> {
 #[test]
 fn looks_ahead(rt: HostRuntime) -> Result<(), Failed> {
     let table = [
-        ("a.b", "true false false false false false"),
-        ("a\n(b)", "false false false false false false"),
-        (
-            "a<b, (c, d) -> e<out f, *,>?,>(g)",
-            "true true false false false false",
-        ),
-        ("a<(b, c)>(d)", "false false false false false false"),
-        ("a<b> c", "false true false false false false"),
-        ("a -> b -> c", "false false true false false false"),
-        ("a -> (b)? , c", "false false true false false false"),
-        ("a -> b }", "false false false false false false"),
-        ("a; else b", "false false false true false false"),
-        ("a else -> b", "false false false false false false"),
-        ("a catch (b: c)", "false false false false true false"),
-        ("a catch (b)", "false false false false false false"),
-        ("a finally {", "false false false false false true"),
+        ("a.b", "true false false false"),
+        ("a\n(b)", "false false false false"),
+        ("a<b, (c, d) -> e<out f, *,>?,>(g)", "true true false false"),
+        ("a<(b, c)>(d)", "false false false false"),
+        ("a<b> c", "false true false false"),
+        ("a -> b -> c", "false false true false"),
+        ("a -> (b)? , c", "false false true false"),
+        ("a -> b }", "false false false false"),
+        ("a; else b", "false false false true"),
+        ("a else -> b", "false false false false"),
     ];
     for (source, expected) in table {
         assert_eq!(rt;

@@ -1,6 +1,6 @@
 -- The steps of the parser where tests look farther than the next token.
 use Rattle.std.proofs.Common.{◌≡◌, ℕ, zero, suc, ◌+◌, ◌<◌, ◌≤◌, max, inl, inr, Bool, true, false, List, [], ◌∷◌, ◌++◌, length, length-append, length-drop, drop, Result, Ok, Err, refl, sym, ap, subst, ◌∙◌, arith}
-use Rattle.grammars.specs.Grammar.{Test, next, Part, one, row, both, choose, many, Cst, none, node, pair, first, test, Settled, Productive, Begun, guard, r_guard}
+use Rattle.grammars.specs.Grammar.{Test, next, Part, one, row, both, choose, many, Cst, none, node, pair, left, right, first, test, Settled, Productive, Begun, guard, r_guard}
 use Rattle.grammars.specs.Tables.{is_empty}
 use Rattle.grammars.proofs.Refusals.{stuck_one, stuck_unguarded}
 use Rattle.grammars.proofs.Later.{begun_here, begun_guard, dead_guard, begun_row, begun_left, begun_right, begun_turn, begun_first, begun_second, begun_more, begun_of, productive, Dead, dead_of, dead_later, dead_row, dead_first, dead_left, dead_right, dead_turn, dead_second, dead_more, stuck_of}
@@ -13,7 +13,7 @@ use Rattle.kt_parser.specs.Moves.{Moved}
 use Rattle.kt_parser.specs.Behind.{behind}
 use Rattle.kt_parser.specs.Rows.{Row, grammar}
 use Rattle.kt_parser.proofs.Progress.{empty, shortens, goes_on}
-use Rattle.kt_parser.proofs.Steps.{by_order, begun_to, covered, settled_on, fewer_behind, BegunAt, begun_farther, read_one, read_both, read_row, read_turn, read_done, behind_stuck}
+use Rattle.kt_parser.proofs.Steps.{by_order, begun_to, covered, settled_on, fewer_behind, BegunAt, begun_farther, read_one, read_both, read_row, read_first, read_second, read_turn, read_done, behind_stuck}
 
 -- ---- refusals
 
@@ -227,3 +227,27 @@ not_one {f = f} {ts = ts} {start = start} t w v h i = subst (λ x. Halts (one f)
 
 pub moves : {f : Token → Bool} {ts : List Token} {start end : Cursor} {n : ℕ} → Taken f ts start.at n → end ≡ record { at = n; looked = start.looked } → Moved f ts start end
 moves {f = f} {ts = ts} {start = start} o e = subst (λ (c : Cursor). Moved f ts start c) (sym e) (record { taken = o; so_far = refl })
+
+-- ---- functions that choose by the next token, and hand on
+
+pub chosen_first : {X : Type 0} (f : Token → Bool) (a b : Part Row Token) (build whole : Cst Token → X) → ((c : Cst Token) → whole (left c) ≡ build c) → (ts : List Token) (start : Cursor) → start.at ≤ length ts
+    → test f (first (drop start.at ts)) ≡ true → (r : Result (X × Cursor) (Fail ℕ)) → Advances a build ts start r → Advances (choose (next f) a b) whole ts start r
+chosen_first f a b build whole law ts start w h (Ok k) q = record { tree = left q.tree; looked = q.looked; read = read_first h q.read; builds = q.builds ∙ sym (law q.tree); so_far = q.so_far }
+chosen_first f a b build whole law ts start w h (Err x) q = halts_left w h q
+
+pub chosen_second : {X : Type 0} (f : Token → Bool) (a b : Part Row Token) (build whole : Cst Token → X) → ((c : Cst Token) → whole (right c) ≡ build c) → (ts : List Token) (start : Cursor) → start.at ≤ length ts
+    → test f (first (drop start.at ts)) ≡ false → (r : Result (X × Cursor) (Fail ℕ)) → Advances b build ts start r → Advances (choose (next f) a b) whole ts start r
+chosen_second f a b build whole law ts start w h (Ok k) q = record { tree = right q.tree; looked = q.looked; read = read_second h q.read; builds = q.builds ∙ sym (law q.tree); so_far = q.so_far }
+chosen_second f a b build whole law ts start w h (Err x) q = halts_right w h q
+
+-- a row, by what it stands for
+pub of_row : {X : Type 0} (n : Row) (part : Part Row Token) → grammar n ≡ part → (build whole : Cst Token → X) → ((c : Cst Token) → whole (node c) ≡ build c) → (ts : List Token) (start : Cursor)
+    → (r : Result (X × Cursor) (Fail ℕ)) → Advances part build ts start r → Advances (row n) whole ts start r
+of_row n part is build whole law ts start (Ok k) q = record {
+  tree = node q.tree;
+  looked = q.looked;
+  read = read_row (subst (λ b. Read b ts start.at k.1.at q.looked q.tree) (sym is) q.read);
+  builds = q.builds ∙ sym (law q.tree);
+  so_far = q.so_far;
+}
+of_row n part is build whole law ts start (Err e) q = halts_row (subst (λ b. Halts b ts start e) (sym is) q)

@@ -13,3 +13,5 @@ pub mod ArgumentRows
 pub mod SignRows
 pub mod CastRows
 pub mod OperatorRows
+pub mod TurnRows
+pub mod PrefixRows

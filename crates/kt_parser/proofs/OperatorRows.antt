@@ -1,10 +1,11 @@
 -- The steps of the functions that read operators.
 use Rattle.std.proofs.Common.{◌≡◌, ℕ, ◌≤◌, max, true, false, List, [], ◌∷◌, length, drop, Result, Ok, Err, refl, sym, ap, subst, ◌∙◌, arith}
-use Rattle.grammars.specs.Grammar.{Test, next, Part, one, row, both, many, Cst, none, leaf, node, pair, left, right, first, test, Derives, d_nothing, d_one, d_row, d_both, d_left, d_right, d_done, d_guard, Reads, r_guard, Productive}
+use Rattle.grammars.specs.Grammar.{Test, next, Part, one, row, both, many, guard, Cst, none, leaf, node, pair, left, right, first, test, Derives, d_nothing, d_one, d_row, d_both, d_left, d_right, d_done, d_guard, Reads, r_guard, Productive}
 use Rattle.kc_text.specs.declared.errors.Fail.{Fail}
 use Rattle.kc_text.specs.declared.errors.Fail.TheVariants.{Found}
 use Rattle.kc_tree.specs.declared.expr.Expr.{Expr}
 use Rattle.kt_lexer.specs.declared.token.Token.{Token}
+use Rattle.kt_lexer.specs.declared.token.Operator.TheVariants as operator
 use Rattle.kt_parser.specs.declared.cursor.Cursor.{Cursor}
 use Rattle.kt_parser.specs.declared.signs.Level.{Level}
 use Rattle.kt_parser.specs.declared.signs.Level.TheVariants as level
@@ -14,7 +15,7 @@ use Rattle.kt_parser.specs.Rows as rows
 use Rattle.kt_parser.specs.Rows.{Row, grammar}
 use Rattle.kt_parser.specs.Signs.{is_between, row_of, operand_row, turns_of, tree_of, operand_of, all_of, infix_operand, infix_operand_of, is_relation, TokenTaken}
 use Rattle.kt_parser.specs.Tokens.{unmarked, is_prefix, is_name, is_in, is_is, is_comparison, begins_expression}
-use Rattle.kt_parser.proofs.SingleTokens.{a_name}
+use Rattle.kt_parser.proofs.SingleTokens.{op_token, a_name}
 use Rattle.kt_parser.proofs.Advances.{halts_row, halts_left, halts_right, halts_after, halts_turn, halts_as, turn_on, turns_end, level_from, level_halts, refused_guard, read_guard, not_guarded}
 use Rattle.kt_parser.proofs.Steps.{standing, read_one, read_row, read_both, read_first, read_second, read_nothing}
 
@@ -26,18 +27,47 @@ has_turns = ([], none, d_done)
 pub has_comparison_turn : Productive grammar rows.comparison_turn
 has_comparison_turn = ([], right none, d_right d_nothing)
 
--- a name alone derives the row
-abbrev ByName : Row → Type 0
-ByName n = (x : Cst Token) × Derives grammar (row n) (a_name ∷ []) x []
+-- tokens that derive the row, all of them
+abbrev Derived : List Token → Row → Type 0
+Derived us n = (x : Cst Token) × Derives grammar (row n) us x []
 
-by_name : {n m : Row} (part : Part Row Token) → grammar n ≡ both (row m) part → ByName m → (y : Cst Token) → Derives grammar part [] y [] → ByName n
-by_name part e p y d = let k = subst (λ a. (x : Cst Token) × Derives grammar a (a_name ∷ []) x []) (sym e) (pair p.0 y, d_both p.1 d) in (node k.0, d_row k.1)
+-- an operand that nothing follows
+derived_alone : {us : List Token} {n m : Row} (part : Part Row Token) → grammar n ≡ both (row m) part → Derived us m → (y : Cst Token) → Derives grammar part [] y [] → Derived us n
+derived_alone {us = us} part e p y d = let k = subst (λ a. (x : Cst Token) × Derives grammar a us x []) (sym e) (pair p.0 y, d_both p.1 d) in (node k.0, d_row k.1)
 
-name_prefix : ByName rows.prefix
+derived_range : {us : List Token} → Derived us rows.prefix → Derived us rows.range
+derived_range p = derived_alone rows.range_turns refl (derived_alone rows.sum_turns refl (derived_alone rows.product_turns refl (derived_alone rows.cast_turns refl p none d_done) none d_done) none d_done) none d_done
+
+derived_elvis : {us : List Token} → Derived us rows.prefix → Derived us rows.elvis
+derived_elvis p = derived_alone rows.elvis_turns refl (derived_alone rows.infix_turns refl (derived_range p) none d_done) none d_done
+
+derived_equality : {us : List Token} → Derived us rows.prefix → Derived us rows.equality
+derived_equality p = derived_alone rows.equality_turns refl (derived_alone rows.comparison_turn refl (derived_alone rows.named_turns refl (derived_elvis p) none d_done) (right none) (d_right d_nothing)) none d_done
+
+derived_expression : {us : List Token} → Derived us rows.prefix → Derived us rows.expression
+derived_expression p = derived_alone rows.or_turns refl (derived_alone rows.and_turns refl (derived_equality p) none d_done) none d_done
+
+-- a name, and one behind a prefix operator
+name_prefix : Derived (a_name ∷ []) rows.prefix
 name_prefix = (node (right (node (pair (node (right (left (leaf a_name)))) none))), d_row (d_right (d_row (d_both (d_row (d_right (d_left (d_one refl)))) d_done))))
 
-name_range : ByName rows.range
-name_range = by_name rows.range_turns refl (by_name rows.sum_turns refl (by_name rows.product_turns refl (by_name rows.cast_turns refl name_prefix none d_done) none d_done) none d_done) none d_done
+minus : Token
+minus = op_token operator.Minus
+
+signed_prefix : Derived (minus ∷ a_name ∷ []) rows.prefix
+unfolding minus
+signed_prefix = (node (left (pair (leaf minus) name_prefix.0)), d_row (d_left (d_both (d_one refl) name_prefix.1)))
+
+-- a name alone is an expression
+pub an_expression : (x : Cst Token) × Derives grammar (row rows.expression) (a_name ∷ []) x []
+an_expression = derived_expression name_prefix
+
+pub has_expression : Productive grammar (row rows.expression)
+has_expression = (a_name ∷ [], an_expression.0, an_expression.1)
+
+pub has_signed : Productive grammar (guard (next is_prefix) (row rows.expression))
+unfolding minus
+has_signed = let k = derived_expression signed_prefix in (minus ∷ a_name ∷ [], node k.0, d_guard {f = next is_prefix} refl k.1 (omega arith))
 
 -- ---- levels
 
@@ -147,7 +177,7 @@ not_compared x w h = record { tree = right none; looked = 0; read = read_second 
 -- ---- named functions
 
 has_operand : Productive grammar infix_operand
-has_operand = let k = name_range in (a_name ∷ [], node k.0, d_guard {f = next (unmarked begins_expression)} refl k.1 (omega arith))
+has_operand = let k = derived_range name_prefix in (a_name ∷ [], node k.0, d_guard {f = next (unmarked begins_expression)} refl k.1 (omega arith))
 
 pub infix_from : (ts : List Token) (start : Cursor) → start.at ≤ length ts → test (unmarked begins_expression) (first (drop start.at ts)) ≡ true → (r : Result (Expr × Cursor) (Fail ℕ))
     → Advances (row rows.range) built.range_of ts start r → Advances infix_operand infix_operand_of ts start r

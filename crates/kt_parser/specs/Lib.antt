@@ -15,3 +15,5 @@ pub mod Beginnings
 pub mod Expressions
 pub mod Signs
 pub mod Readers
+pub mod Prefixes
+pub mod Turns

@@ -99,6 +99,9 @@ is_sign sign.In = unmarked tokens.is_in
 is_sign sign.Is = unmarked tokens.is_is
 is_sign sign.Cast = unmarked tokens.is_as
 is_sign sign.Prefix = tokens.is_prefix
+is_sign sign.Assignment = unmarked tokens.is_assignment
+is_sign sign.Atom = tokens.is_atom
+is_sign sign.Jump = tokens.is_jump
 
 abbrev pub is_relation : Token → Bool
 is_relation = unmarked (λ t. tokens.is_in t || tokens.is_is t)

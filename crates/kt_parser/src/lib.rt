@@ -12,8 +12,10 @@ mod lookahead;
 mod nodes;
 mod operands;
 mod operators;
+mod prefixes;
 mod signs;
 mod tokens;
+mod turns;
 mod types;
 
 ghost use Rattle.kt_parser.specs.DeclarationExamples.{FilesRead, ClassesRead, MembersRead, FilesBuilt};
@@ -26,11 +28,13 @@ pub use casts::{cast_turns, typed_turn};
 pub use cursor::{Cursor, behind, eat_op_on, expect_op_on};
 pub use locals::{bare_names, colon_type, names, typed_name};
 pub use lookahead::{
-    Look, are_parameters, arguments_form, else_follows, is_argument_name, is_catch_clause,
-    is_finally_clause, result_follows, suffix_follows,
+    Frame, Frames, Goal, Look, Mode, Next, Place, arguments_form, else_follows, result_follows,
+    step, suffix_follows,
 };
+pub use nodes::{across, is_negated, is_safe, word_of};
 pub use operands::operand_type;
 pub use operators::Operators;
+pub use signs::{Level, Sign, eat_sign, expect_sign};
 pub use tokens::{
     begins_type, begins_type_argument, class, eat, eat_name, eat_op, eat_out, eat_unmarked,
     eat_word, expect_name, expect_op, is_at, is_name_at, is_op_at, is_unmarked_at, keyword_class,

@@ -1,5 +1,4 @@
-//! What stands behind the next token: whether tokens form type arguments or a function type, and words that mean something before
-//! certain tokens.
+//! What stands behind the next token: whether tokens form type arguments or a function type, and whether `else` follows a body.
 ghost use Rattle.std.specs.Prelude.{◌≡◌, ◌≤◌, ◌+◌, ◌∷◌, [], List, ◌↔◌, IfOk, IsTrue, MatchOption, drop, length, reverse};
 ghost use Rattle.grammars.specs.Automata.{accepts};
 ghost use Rattle.kt_parser.specs.Lookahead as spec;
@@ -7,7 +6,7 @@ ghost use Rattle.kt_parser.specs.Steps.{as_step, Looks};
 ghost use Rattle.kt_parser.specs.Tokens as tokens_of;
 ghost use Rattle.kt_parser.specs.declared.lookahead.Frame.TheVariants as frames_of;
 
-use crate::tokens::{class, eat, eat_name, eat_op, eat_word, is_op, is_op_at, keyword_class};
+use crate::tokens::{class, eat_op, eat_word, is_op, is_op_at, keyword_class};
 use kt_lexer::{Keyword, Operator, Token};
 use std::alloc::{AllocError, Global};
 use std::marker::Model;
@@ -77,6 +76,7 @@ impl Model for Frames {
     ghost view = { λ frames. reverse frames.open.items };
 }
 
+/// What is open, and where in a type the tokens have come to.
 #[derive(Drop)]
 pub struct Place {
     pub frames: Frames,
@@ -91,6 +91,7 @@ pub struct Look {
     pub end: usize,
 }
 
+/// What a token does: it leads to a place, or settles the test.
 #[derive(Drop)]
 pub enum Next {
     Go(Place),
@@ -98,7 +99,8 @@ pub enum Next {
 }
 
 impl Frames {
-    fn new(alloc: Global) -> Frames
+    /// No brackets.
+    pub fn new(alloc: Global) -> Frames
         ensures { result ≡ [] }
     {
         Frames {
@@ -106,13 +108,15 @@ impl Frames {
         }
     }
 
-    fn is_empty(&self) -> bool
+    /// Whether no bracket is open.
+    pub fn is_empty(&self) -> bool
         ensures { IsTrue result ↔ (self.now ≡ []) }
     {
         self.open.is_empty()
     }
 
-    fn push(self, frame: Frame) -> Result<Frames, AllocError>
+    /// One more bracket inside.
+    pub fn push(self, frame: Frame) -> Result<Frames, AllocError>
         ensures { IfOk result (λ frames. frames ≡ frame ∷ self) }
     {
         let Frames { mut open } = self;
@@ -120,7 +124,8 @@ impl Frames {
         Ok(Frames { open })
     }
 
-    fn pop(self) -> (Option<Frame>, Frames)
+    /// The innermost bracket, and those around it.
+    pub fn pop(self) -> (Option<Frame>, Frames)
         ensures { MatchOption result.0 (self ≡ []) (λ frame. self ≡ frame ∷ result.1) }
     {
         let Frames { mut open } = self;
@@ -385,7 +390,8 @@ fn go_if(holds: bool, frames: Frames, mode: Mode) -> Next
     }
 }
 
-fn step(goal: Goal, place: Place, token: &Token) -> Result<Next, AllocError>
+/// What a token does at a place.
+pub fn step(goal: Goal, place: Place, token: &Token) -> Result<Next, AllocError>
     ensures { IfOk result (λ next. as_step next ≡ spec.step goal place token.now) }
 {
     let Place { frames, mode } = place;
@@ -458,56 +464,6 @@ pub fn result_follows(alloc: Global, tokens: &[Token], at: usize) -> Result<Look
     ensures { IfOk result (λ look. (look.holds ≡ spec.result_follows.holds (drop at tokens.now)) × (look.end ≡ at + spec.result_follows.far (drop at tokens.now))) }
 {
     scan(alloc, Goal::BeforeArrow, Mode::Arrow, tokens, at)
-}
-
-/// A name and `=` behind it.
-pub fn is_argument_name(tokens: &[Token], at: usize) -> bool
-    ensures { result ≡ spec.argument_name.holds (drop at tokens.now) }
-{
-    match eat_name(tokens, at) {
-        Some(next) => is_op_at(tokens, next, Operator::Assign),
-        None => false,
-    }
-}
-
-/// The parameters of a lambda, with their `->`.
-pub fn are_parameters(tokens: &[Token], at: usize) -> bool
-    ensures { result ≡ spec.parameters.holds (drop at tokens.now) }
-{
-    match eat_name(tokens, at) {
-        Some(next) => {
-            is_op_at(tokens, next, Operator::Comma)
-                || is_op_at(tokens, next, Operator::Colon)
-                || is_op_at(tokens, next, Operator::Arrow)
-        }
-        None => false,
-    }
-}
-
-/// `catch`, `(`, a name and `:`.
-pub fn is_catch_clause(tokens: &[Token], at: usize) -> bool
-    ensures { result ≡ spec.catch_clause.holds (drop at tokens.now) }
-{
-    let Some(open) = eat(tokens, at, 84) else {
-        return false;
-    };
-    let Some(name) = eat_op(tokens, open, Operator::OpenRound) else {
-        return false;
-    };
-    match eat_name(tokens, name) {
-        Some(next) => is_op_at(tokens, next, Operator::Colon),
-        None => false,
-    }
-}
-
-/// `finally` and `{`.
-pub fn is_finally_clause(tokens: &[Token], at: usize) -> bool
-    ensures { result ≡ spec.finally_clause.holds (drop at tokens.now) }
-{
-    match eat(tokens, at, 85) {
-        Some(next) => is_op_at(tokens, next, Operator::OpenBrace),
-        None => false,
-    }
 }
 
 /// `else` that is followed by no `->`.

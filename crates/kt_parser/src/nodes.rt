@@ -11,7 +11,7 @@ use sqlite_items::Boxed;
 use std::alloc::{AllocError, Global};
 
 /// From the start of one stretch of text to the end of another behind it.
-fn across(begin: Span, end: Span) -> Span
+pub fn across(begin: Span, end: Span) -> Span
     ensures { result ≡ built.across begin end }
 {
     Span {
@@ -79,7 +79,7 @@ fn binary_operator(kind: &TokenKind) -> BinaryOp
 }
 
 /// `!in`, `!is`
-fn is_negated(kind: &TokenKind) -> bool
+pub fn is_negated(kind: &TokenKind) -> bool
     ensures { result ≡ built.is_negated kind.now }
 {
     let class = class(kind);
@@ -87,7 +87,7 @@ fn is_negated(kind: &TokenKind) -> bool
 }
 
 /// `as?`, `?.`
-fn is_safe(kind: &TokenKind) -> bool
+pub fn is_safe(kind: &TokenKind) -> bool
     ensures { result ≡ built.is_safe kind.now }
 {
     let class = class(kind);
@@ -107,7 +107,7 @@ fn number_of(kind: &TokenKind) -> usize
 }
 
 /// The name that a token holds.
-fn word_of(token: &Token) -> Word
+pub fn word_of(token: &Token) -> Word
     ensures { result ≡ types_built.word_of token.now }
 {
     Word {

@@ -11,7 +11,8 @@ ghost use Rattle.kt_parser.specs.Signs as signs;
 use crate::beginnings::begins_operand;
 use crate::casts::{cast_turns, typed_turn};
 use crate::cursor::Cursor;
-use crate::nodes::{binary, contained, infix_call, prefixed};
+use crate::nodes::{binary, contained, infix_call};
+use crate::prefixes::{behind_prefixes, wrapped};
 use crate::signs::{Level, Sign, eat_sign, is_relation_at};
 use kc_text::Fail;
 use kc_tree::Expr;
@@ -50,16 +51,13 @@ impl<F: Fn(Global, &[Token], Cursor) -> Result<(Expr, Cursor), Fail<usize>>> Ope
         requires within { at.at ≤ length self.now.tokens.now }
         ensures { Advances (row rows.prefix) built.prefix_of self.now.tokens.now at result }
     {
-        let Some((token, next)) = eat_sign(self.tokens, at, Sign::Prefix) else {
-            return self.postfix_at(at);
-        };
-        let (of, end) = self.prefix(next)?;
-        let whole = prefixed(self.alloc, token, of)?;
-        Ok((whole, end))
+        let last = behind_prefixes(self.tokens, at);
+        let (of, end) = self.postfix_at(at.to(last))?;
+        wrapped(self.alloc, self.tokens, at, last, of, end)
     }
 
     /// An operand with any number of casts.
-    fn cast(&self, at: Cursor) -> Result<(Expr, Cursor), Fail<usize>>
+    pub(crate) fn cast(&self, at: Cursor) -> Result<(Expr, Cursor), Fail<usize>>
         requires operands { ReadsPostfix self.now.tokens.now self.now.from (F.pre self.now.postfix) (F.post self.now.postfix) }
         requires behind { self.now.from ≤ at.at }
         requires within { at.at ≤ length self.now.tokens.now }
@@ -86,7 +84,7 @@ impl<F: Fn(Global, &[Token], Cursor) -> Result<(Expr, Cursor), Fail<usize>>> Ope
     }
 
     /// Any number of operands behind a first one, each behind an operator of the level.
-    fn turns<G: Fn(Cursor) -> Result<(Expr, Cursor), Fail<usize>>>(
+    pub(crate) fn turns<G: Fn(Cursor) -> Result<(Expr, Cursor), Fail<usize>>>(
         &self,
         level: Level,
         operand: G,
@@ -108,7 +106,7 @@ impl<F: Fn(Global, &[Token], Cursor) -> Result<(Expr, Cursor), Fail<usize>>> Ope
         Ok((left, at))
     }
 
-    fn product(&self, at: Cursor) -> Result<(Expr, Cursor), Fail<usize>>
+    pub(crate) fn product(&self, at: Cursor) -> Result<(Expr, Cursor), Fail<usize>>
         requires operands { ReadsPostfix self.now.tokens.now self.now.from (F.pre self.now.postfix) (F.post self.now.postfix) }
         requires behind { self.now.from ≤ at.at }
         requires within { at.at ≤ length self.now.tokens.now }
@@ -117,7 +115,7 @@ impl<F: Fn(Global, &[Token], Cursor) -> Result<(Expr, Cursor), Fail<usize>>> Ope
         self.operands(Level::Product, |at| self.cast(at), at)
     }
 
-    fn sum(&self, at: Cursor) -> Result<(Expr, Cursor), Fail<usize>>
+    pub(crate) fn sum(&self, at: Cursor) -> Result<(Expr, Cursor), Fail<usize>>
         requires operands { ReadsPostfix self.now.tokens.now self.now.from (F.pre self.now.postfix) (F.post self.now.postfix) }
         requires behind { self.now.from ≤ at.at }
         requires within { at.at ≤ length self.now.tokens.now }
@@ -136,7 +134,7 @@ impl<F: Fn(Global, &[Token], Cursor) -> Result<(Expr, Cursor), Fail<usize>>> Ope
     }
 
     /// Operands with named functions between them, or one.
-    fn infix_calls(&self, at: Cursor) -> Result<(Expr, Cursor), Fail<usize>>
+    pub(crate) fn infix_calls(&self, at: Cursor) -> Result<(Expr, Cursor), Fail<usize>>
         requires operands { ReadsPostfix self.now.tokens.now self.now.from (F.pre self.now.postfix) (F.post self.now.postfix) }
         requires behind { self.now.from ≤ at.at }
         requires within { at.at ≤ length self.now.tokens.now }
@@ -147,7 +145,7 @@ impl<F: Fn(Global, &[Token], Cursor) -> Result<(Expr, Cursor), Fail<usize>>> Ope
     }
 
     /// Any number of operands behind a first one, each behind the name of a function.
-    fn infix_turns(&self, left: Expr, at: Cursor) -> Result<(Expr, Cursor), Fail<usize>>
+    pub(crate) fn infix_turns(&self, left: Expr, at: Cursor) -> Result<(Expr, Cursor), Fail<usize>>
         requires operands { ReadsPostfix self.now.tokens.now self.now.from (F.pre self.now.postfix) (F.post self.now.postfix) }
         requires behind { self.now.from ≤ at.at }
         requires within { at.at ≤ length self.now.tokens.now }
@@ -214,7 +212,7 @@ impl<F: Fn(Global, &[Token], Cursor) -> Result<(Expr, Cursor), Fail<usize>>> Ope
     }
 
     /// Any number of operands behind `in` and `!in`, and of types behind `is` and `!is`.
-    fn named_turns(&self, left: Expr, at: Cursor) -> Result<(Expr, Cursor), Fail<usize>>
+    pub(crate) fn named_turns(&self, left: Expr, at: Cursor) -> Result<(Expr, Cursor), Fail<usize>>
         requires operands { ReadsPostfix self.now.tokens.now self.now.from (F.pre self.now.postfix) (F.post self.now.postfix) }
         requires behind { self.now.from ≤ at.at }
         requires within { at.at ≤ length self.now.tokens.now }
@@ -260,7 +258,7 @@ impl<F: Fn(Global, &[Token], Cursor) -> Result<(Expr, Cursor), Fail<usize>>> Ope
     }
 
     /// Two operands with `<`, `>`, `<=` or `>=` between them, or one.
-    fn comparison(&self, at: Cursor) -> Result<(Expr, Cursor), Fail<usize>>
+    pub(crate) fn comparison(&self, at: Cursor) -> Result<(Expr, Cursor), Fail<usize>>
         requires operands { ReadsPostfix self.now.tokens.now self.now.from (F.pre self.now.postfix) (F.post self.now.postfix) }
         requires behind { self.now.from ≤ at.at }
         requires within { at.at ≤ length self.now.tokens.now }
@@ -271,7 +269,11 @@ impl<F: Fn(Global, &[Token], Cursor) -> Result<(Expr, Cursor), Fail<usize>>> Ope
     }
 
     /// One operand behind `<`, `>`, `<=` or `>=`, or nothing.
-    fn comparison_turn(&self, left: Expr, at: Cursor) -> Result<(Expr, Cursor), Fail<usize>>
+    pub(crate) fn comparison_turn(
+        &self,
+        left: Expr,
+        at: Cursor,
+    ) -> Result<(Expr, Cursor), Fail<usize>>
         requires operands { ReadsPostfix self.now.tokens.now self.now.from (F.pre self.now.postfix) (F.post self.now.postfix) }
         requires behind { self.now.from ≤ at.at }
         requires within { at.at ≤ length self.now.tokens.now }
@@ -300,7 +302,7 @@ impl<F: Fn(Global, &[Token], Cursor) -> Result<(Expr, Cursor), Fail<usize>>> Ope
         Ok((whole, end))
     }
 
-    fn equality(&self, at: Cursor) -> Result<(Expr, Cursor), Fail<usize>>
+    pub(crate) fn equality(&self, at: Cursor) -> Result<(Expr, Cursor), Fail<usize>>
         requires operands { ReadsPostfix self.now.tokens.now self.now.from (F.pre self.now.postfix) (F.post self.now.postfix) }
         requires behind { self.now.from ≤ at.at }
         requires within { at.at ≤ length self.now.tokens.now }
@@ -309,7 +311,7 @@ impl<F: Fn(Global, &[Token], Cursor) -> Result<(Expr, Cursor), Fail<usize>>> Ope
         self.operands(Level::Equality, |at| self.comparison(at), at)
     }
 
-    fn conjunction(&self, at: Cursor) -> Result<(Expr, Cursor), Fail<usize>>
+    pub(crate) fn conjunction(&self, at: Cursor) -> Result<(Expr, Cursor), Fail<usize>>
         requires operands { ReadsPostfix self.now.tokens.now self.now.from (F.pre self.now.postfix) (F.post self.now.postfix) }
         requires behind { self.now.from ≤ at.at }
         requires within { at.at ≤ length self.now.tokens.now }

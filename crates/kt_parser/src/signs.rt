@@ -37,6 +37,12 @@ pub enum Sign {
     Cast,
     /// `-`, `+`, `!`, `++`, `--`
     Prefix,
+    /// `=`, `+=`, `-=`, `*=`, `/=`, `%=`
+    Assignment,
+    /// A number, a character, `true`, `false`, `null` or `this`.
+    Atom,
+    /// `return`, `throw`, `break` or `continue`.
+    Jump,
 }
 
 fn is_equality(token: &Token) -> bool
@@ -87,6 +93,37 @@ fn is_prefix(token: &Token) -> bool
         || is_op(token, Operator::Decrement)
 }
 
+fn is_assignment(token: &Token) -> bool
+    ensures { result ≡ tokens_of.is_assignment token.now }
+{
+    is_op(token, Operator::Assign)
+        || is_op(token, Operator::PlusAssign)
+        || is_op(token, Operator::MinusAssign)
+        || is_op(token, Operator::TimesAssign)
+        || is_op(token, Operator::DivideAssign)
+        || is_op(token, Operator::RemainderAssign)
+}
+
+fn is_atom(token: &Token) -> bool
+    ensures { result ≡ tokens_of.is_atom token.now }
+{
+    class(&token.kind) == 76
+        || class(&token.kind) == 77
+        || is_word(token, Keyword::True)
+        || is_word(token, Keyword::False)
+        || is_word(token, Keyword::Null)
+        || is_word(token, Keyword::This)
+}
+
+fn is_jump(token: &Token) -> bool
+    ensures { result ≡ tokens_of.is_jump token.now }
+{
+    is_word(token, Keyword::Return)
+        || is_word(token, Keyword::Break)
+        || is_word(token, Keyword::Continue)
+        || is_word(token, Keyword::Throw)
+}
+
 fn is_as(token: &Token) -> bool
     ensures { result ≡ tokens_of.is_as token.now }
 {
@@ -131,6 +168,9 @@ fn is_sign(token: &Token, sign: Sign) -> bool
         Sign::Is => is_is(token) && !token.marked,
         Sign::Cast => is_as(token) && !token.marked,
         Sign::Prefix => is_prefix(token),
+        Sign::Assignment => is_assignment(token) && !token.marked,
+        Sign::Atom => is_atom(token),
+        Sign::Jump => is_jump(token),
     }
 }
 
