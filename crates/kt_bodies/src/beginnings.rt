@@ -56,7 +56,7 @@ pub fn begins_statement(tokens: &[Token], at: usize) -> bool
 }
 
 /// Whether a line ends before the token at the place in a way that counts.
-fn is_marked(tokens: &[Token], at: usize) -> bool
+pub fn is_marked(tokens: &[Token], at: usize) -> bool
     ensures { result ≡ test (λ t. t.marked) (first (drop at tokens.now)) }
 {
     match tokens.get(at) {
