@@ -1,0 +1,4 @@
+pub mod MarkRows
+pub mod CallRows
+pub mod SuffixRows
+pub mod StringRows
