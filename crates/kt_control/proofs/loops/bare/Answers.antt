@@ -1,0 +1,16 @@
+use Rattle.std.proofs.lemmas.Result.{err_from_is_err_and}
+use Rattle.kt_parser.proofs.Advances.{halts_first, halts_second, halts_after}
+use Rattle.kt_control.proofs.LoopRows.{has_close, has_bare_close, round_from}
+use Rattle.kt_control.proofs.loops.bare.Goals as goal
+
+pub returns-in_err-next : goal.returns-in_err-next
+returns-in_err-next c = let p = err_from_is_err_and c.from_residual.result c.from_residual.ensures.1 in rw (p.1, p.2) (halts_first has_bare_close c.in_err-next.ensures)
+
+pub returns-in_err-names : goal.returns-in_err-names
+returns-in_err-names c = let p = err_from_is_err_and c.from_residual-in_err-names.result c.from_residual-in_err-names.ensures.1 in rw (p.1, p.2) (let o = c.in_ok-next.ensures in halts_after o.taken o.so_far (halts_first has_close c.in_err-names.ensures))
+
+pub returns-in_err-end : goal.returns-in_err-end
+returns-in_err-end c = let p = err_from_is_err_and c.from_residual-in_err-end.result c.from_residual-in_err-end.ensures.1 in rw (p.1, p.2) (let o = c.in_ok-next.ensures in let q = c.in_ok-names.ensures in halts_after o.taken o.so_far (halts_second q.read q.so_far c.in_err-end.ensures))
+
+pub returns : goal.returns
+returns c = round_from c.in_ok-next.ensures c.in_ok-names.ensures c.in_ok-end.ensures

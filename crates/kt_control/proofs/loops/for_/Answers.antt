@@ -1,0 +1,17 @@
+use Rattle.std.proofs.lemmas.Result.{err_from_is_err_and}
+use Rattle.kt_parser.proofs.Advances.{halts_first, halts_second, halts_after}
+use Rattle.kt_bodies.proofs.StatementRows.{has_statement}
+use Rattle.kt_control.proofs.LoopRows.{has_behind_for, for_from}
+use Rattle.kt_control.proofs.loops.for_.Goals as goal
+
+pub returns-in_err-next : goal.returns-in_err-next
+returns-in_err-next g c = let p = err_from_is_err_and c.from_residual.result c.from_residual.ensures.1 in rw (p.1, p.2) (halts_first has_behind_for c.in_err-next.ensures)
+
+pub returns-in_err-head : goal.returns-in_err-head
+returns-in_err-head g c = let p = err_from_is_err_and c.from_residual-in_err-head.result c.from_residual-in_err-head.ensures.1 in rw (p.1, p.2) (let o = c.in_ok-next.ensures in halts_after o.taken o.so_far (halts_first has_statement c.in_err-head.ensures))
+
+pub returns-in_err-found : goal.returns-in_err-found
+returns-in_err-found g c = let p = err_from_is_err_and c.from_residual-in_err-found.result c.from_residual-in_err-found.ensures.1 in rw (p.1, p.2) (let o = c.in_ok-next.ensures in let q = c.in_ok-head.ensures in halts_after o.taken o.so_far (halts_second q.read q.so_far c.in_err-found.ensures))
+
+pub returns : goal.returns
+returns g c = for_from c.args.start c.args.label c.in_ok-next.ensures c.in_ok-head.ensures c.in_ok-found.ensures c.span_between-span.ensures c.for_node.ensures

@@ -1,0 +1,16 @@
+use Rattle.std.proofs.lemmas.Result.{err_from_is_err_and}
+use Rattle.kt_parser.proofs.Advances.{halts_first, halts_second, halts_after}
+use Rattle.kt_control.proofs.LoopRows.{has_close, has_inside_close, head_closed}
+use Rattle.kt_control.proofs.loops.head_at.Goals as goal
+
+pub returns-in_err-next : goal.returns-in_err-next
+returns-in_err-next g c = let p = err_from_is_err_and c.from_residual.result c.from_residual.ensures.1 in rw (p.1, p.2) (halts_first has_inside_close c.in_err-next.ensures)
+
+pub returns-in_err-found : goal.returns-in_err-found
+returns-in_err-found g c = let p = err_from_is_err_and c.from_residual-in_err-found.result c.from_residual-in_err-found.ensures.1 in rw (p.1, p.2) (let o = c.in_ok-next.ensures in halts_after o.taken o.so_far (halts_first has_close c.in_err-found.ensures))
+
+pub returns-in_err-end : goal.returns-in_err-end
+returns-in_err-end g c = let p = err_from_is_err_and c.from_residual-in_err-end.result c.from_residual-in_err-end.ensures.1 in rw (p.1, p.2) (let o = c.in_ok-next.ensures in let q = c.in_ok-found.ensures in halts_after o.taken o.so_far (halts_second q.read q.so_far c.in_err-end.ensures))
+
+pub returns : goal.returns
+returns g c = head_closed c.in_ok-next.ensures c.in_ok-found.ensures c.in_ok-end.ensures
