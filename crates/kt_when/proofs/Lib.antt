@@ -1,0 +1,3 @@
+pub mod ConditionRows
+pub mod BranchRows
+pub mod SubjectRows

@@ -1,0 +1,12 @@
+use Rattle.std.proofs.Common.{◌++◌, ◌-◌, length}
+use Rattle.grammars.specs.Grammar.{row}
+use Rattle.kt_parser.specs.Built as built
+use Rattle.kt_parser.specs.Parsed.{ResumesOn}
+use Rattle.kt_parser.specs.Rows as rows
+use Rattle.kt_when.proofs.entries.further_branches.Given as goal
+
+abbrev pub invariant-loop-all : goal.invariant-loop-all
+invariant-loop-all g l = ResumesOn (row rows.after_branch) (λ xs c. xs ++ built.branches_behind c) l.bodies.tokens.now l.fn.at l.fn.before l.at l.all
+
+abbrev pub decreases-loop-all : goal.decreases-loop-all
+decreases-loop-all g l = length l.bodies.tokens.now - l.at.at

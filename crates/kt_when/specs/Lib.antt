@@ -1,0 +1,4 @@
+pub mod Relations
+pub mod Conditions
+pub mod Branches
+pub mod Subjects
