@@ -1,0 +1,2 @@
+pub mod PrimaryRows
+pub mod StatementRows

@@ -1,0 +1,3 @@
+pub mod Primaries
+pub mod Statements
+pub mod Readers
