@@ -1,0 +1,7 @@
+pub mod Modifiers
+pub mod TypeParameters
+pub mod Values
+pub mod Parameters
+pub mod Sites
+pub mod Receivers
+pub mod Functions
