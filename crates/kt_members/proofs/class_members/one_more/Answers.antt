@@ -1,0 +1,14 @@
+use Rattle.std.proofs.lemmas.Result.{err_from_is_err_and}
+use Rattle.kt_parser.specs.Parsed.{halt_memory}
+use Rattle.kt_functions.specs.Sites.{site_of}
+use Rattle.kt_members.proofs.MemberRows.{member_more}
+use Rattle.kt_members.proofs.class_members.one_more.Goals as goal
+
+pub returns-in_err-found : goal.returns-in_err-found
+returns-in_err-found c = let p = err_from_is_err_and c.from_residual.result c.from_residual.ensures.1 in rw (p.1, p.2) c.in_err-found.ensures
+
+pub returns-in_err-push : goal.returns-in_err-push
+returns-in_err-push c = let p = err_from_is_err_and c.from_residual-in_err-push.result c.from_residual-in_err-push.ensures.1 in rw (p.1, p.2) (halt_memory)
+
+pub returns : goal.returns
+returns c = member_more (site_of c.args.site) c.args.before c.push.new.self c.in_ok-found.ensures c.in_ok-push.ensures.ok

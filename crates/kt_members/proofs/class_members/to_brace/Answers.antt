@@ -1,0 +1,16 @@
+use Rattle.std.proofs.lemmas.Result.{err_from_is_err_and}
+use Rattle.kt_lexer.specs.declared.token.Operator.TheVariants as operator
+use Rattle.kt_parser.proofs.Advances.{halts_first, halts_second}
+use Rattle.kt_parser.proofs.TypeRows.{has_op}
+use Rattle.kt_functions.specs.Sites.{site_of}
+use Rattle.kt_members.proofs.MemberRows.{closed_by}
+use Rattle.kt_members.proofs.class_members.to_brace.Goals as goal
+
+pub returns-in_err-all : goal.returns-in_err-all
+returns-in_err-all c = let p = err_from_is_err_and c.from_residual.result c.from_residual.ensures.1 in rw (p.1, p.2) (halts_first (has_op operator.CloseBrace) c.in_err-all.ensures)
+
+pub returns-in_err-end : goal.returns-in_err-end
+returns-in_err-end c = let p = err_from_is_err_and c.from_residual-in_err-end.result c.from_residual-in_err-end.ensures.1 in rw (p.1, p.2) (halts_second c.in_ok-all.ensures.read c.in_ok-all.ensures.so_far c.in_err-end.ensures)
+
+pub returns : goal.returns
+returns c = closed_by (site_of c.args.site) c.in_ok-all.ensures c.in_ok-end.ensures
