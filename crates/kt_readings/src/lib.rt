@@ -1,0 +1,33 @@
+//! Trees of expressions and statements as lines, and what small texts are read as.
+#![tactic(auto)]
+
+mod expressions;
+mod lists;
+mod parts;
+mod print;
+mod types;
+
+pub use print::line_of;
+
+#[cfg(test)]
+mod call_tests;
+#[cfg(test)]
+mod control_tests;
+#[cfg(test)]
+mod depth_tests;
+#[cfg(test)]
+mod lambda_tests;
+#[cfg(test)]
+mod line_tests;
+#[cfg(test)]
+mod name_tests;
+#[cfg(test)]
+mod operator_tests;
+#[cfg(test)]
+mod readings;
+#[cfg(test)]
+mod statement_tests;
+#[cfg(test)]
+mod string_tests;
+#[cfg(test)]
+mod type_tests;
