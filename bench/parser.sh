@@ -6,21 +6,21 @@ top=$(cd "$(dirname "${BASH_SOURCE[0]}")/.." && pwd)
 work=$(mktemp -d)
 trap 'rm -rf "$work"' EXIT
 
-crates='kc_text kc_tree grammars kt_lexer kt_parser kt_bodies kt_calls kt_control kt_when kt_expressions'
+crates='kc_text kc_tree grammars kt_lexer kt_grammar kt_bodies kt_calls kt_control kt_when kt_parser'
 mkdir -p "$work/crates/parser_bench/src" "$work/crates/parser_bench/specs"
 for crate in $crates; do
     cp -r "$top/crates/$crate" "$work/crates/$crate"
     rm -rf "$work/crates/$crate/out"
     grep -E "^$crate:" "$top/crates.txt" >>"$work/crates.txt"
 done
-echo 'parser_bench: kc_text kc_tree kt_lexer kt_parser kt_expressions sqlite_items' >>"$work/crates.txt"
+echo 'parser_bench: kc_text kc_tree kt_lexer kt_grammar kt_parser sqlite_items' >>"$work/crates.txt"
 : >"$work/crates/parser_bench/specs/Lib.antt"
 cat >"$work/crates/parser_bench/src/main.rt" <<'PROGRAM'
 //! Prints how many tokens the file `source.kt` has, and where the expression at its start ends.
 #![tactic(auto)]
 
 use kc_text::{Fail, Names, Text};
-use kt_expressions::parse_expr;
+use kt_parser::parse_expr;
 use kt_lexer::{Token, tokens};
 use std::alloc::Global;
 use std::{fs, io};

@@ -5,11 +5,11 @@ use Rattle.grammars.specs.Tests.{count_if, and_then}
 use Rattle.kc_text.specs.declared.errors.Fail.{Fail}
 use Rattle.kt_bodies.specs.Looks.{Looked}
 use Rattle.kt_lexer.specs.declared.token.Token.{Token}
-use Rattle.kt_parser.specs.declared.cursor.Cursor.{Cursor}
-use Rattle.kt_parser.specs.Parsed.{Read, Refused, Halts, Taken}
-use Rattle.kt_parser.specs.Rows.{Row}
-use Rattle.kt_parser.proofs.Advances.{refused_wider, refused_left, refused_turn, refused_instead, refused_more, halts_on}
-use Rattle.kt_parser.proofs.Steps.{BegunAt, begun_to, wider, read_left, read_instead, read_more, read_stop}
+use Rattle.kt_grammar.specs.declared.cursor.Cursor.{Cursor}
+use Rattle.kt_grammar.specs.Parsed.{Read, Refused, Halts, Taken}
+use Rattle.kt_grammar.specs.Rows.{Row}
+use Rattle.kt_grammar.proofs.Advances.{refused_wider, refused_left, refused_turn, refused_instead, refused_more, halts_on}
+use Rattle.kt_grammar.proofs.Steps.{BegunAt, begun_to, wider, read_left, read_instead, read_more, read_stop}
 
 -- ---- what a test says, and the place of the farthest token that it looks at
 

@@ -5,14 +5,14 @@ use Rattle.grammars.specs.Tables.{is_empty}
 use Rattle.kc_text.specs.declared.errors.Fail.{Fail}
 use Rattle.kt_lexer.specs.declared.token.Token.{Token}
 use Rattle.kt_lexer.specs.declared.token.Operator.TheVariants as operator
-use Rattle.kt_parser.specs.declared.cursor.Cursor.{Cursor}
-use Rattle.kt_parser.specs.Moves.{Moved}
-use Rattle.kt_parser.specs.Parsed.{Read, Advanced, Halts, Advances}
-use Rattle.kt_parser.specs.Rows.{Row, grammar, op, maybe}
-use Rattle.kt_parser.specs.Tokens.{is_op}
-use Rattle.kt_parser.proofs.Advances.{refused_guard, read_guard, halts_as, halts_row, halts_left, halts_right, halts_first, halts_second, halts_after}
-use Rattle.kt_parser.proofs.Progress.{empty}
-use Rattle.kt_parser.proofs.Steps.{standing, read_one, read_both, read_row, read_first, read_second, read_nothing}
+use Rattle.kt_grammar.specs.declared.cursor.Cursor.{Cursor}
+use Rattle.kt_grammar.specs.Moves.{Moved}
+use Rattle.kt_grammar.specs.Parsed.{Read, Advanced, Halts, Advances}
+use Rattle.kt_grammar.specs.Rows.{Row, grammar, op, maybe}
+use Rattle.kt_grammar.specs.Tokens.{is_op}
+use Rattle.kt_grammar.proofs.Advances.{refused_guard, read_guard, halts_as, halts_row, halts_left, halts_right, halts_first, halts_second, halts_after}
+use Rattle.kt_grammar.proofs.Progress.{empty}
+use Rattle.kt_grammar.proofs.Steps.{standing, read_one, read_both, read_row, read_first, read_second, read_nothing}
 use Rattle.kt_bodies.specs.Statements.{Semicolons, no_more, one_more, AllSemicolons, Follows, at_once, behind_semicolon}
 
 abbrev pub is_semicolon : Token → Bool

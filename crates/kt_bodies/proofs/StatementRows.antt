@@ -7,18 +7,18 @@ use Rattle.kc_tree.specs.declared.expr.ExprKind.TheVariants as e
 use Rattle.kt_lexer.specs.declared.token.Token.{Token}
 use Rattle.kt_lexer.specs.declared.token.TokenKind.TheVariants as kind
 use Rattle.kt_lexer.specs.declared.token.Operator.TheVariants as operator
-use Rattle.kt_parser.specs.declared.cursor.Cursor.{Cursor}
-use Rattle.kt_parser.specs.Built as built
-use Rattle.kt_parser.specs.Moves.{Moved}
-use Rattle.kt_parser.specs.Parsed.{Advanced}
-use Rattle.kt_parser.specs.Rows as rows
-use Rattle.kt_parser.specs.Rows.{Row, grammar, op}
-use Rattle.kt_parser.specs.Tokens.{is_op, begins_statement, marked}
-use Rattle.kt_parser.specs.TypesBuilt.{no_span, span_of}
-use Rattle.kt_parser.proofs.Extents.{between_is}
-use Rattle.kt_parser.proofs.Progress.{goes_on}
-use Rattle.kt_parser.proofs.Steps.{has_both, read_one, read_both, read_row}
-use Rattle.kt_parser.proofs.TypeRows.{stretch, has_op}
+use Rattle.kt_grammar.specs.declared.cursor.Cursor.{Cursor}
+use Rattle.kt_grammar.specs.Built as built
+use Rattle.kt_grammar.specs.Moves.{Moved}
+use Rattle.kt_grammar.specs.Parsed.{Advanced}
+use Rattle.kt_grammar.specs.Rows as rows
+use Rattle.kt_grammar.specs.Rows.{Row, grammar, op}
+use Rattle.kt_grammar.specs.Tokens.{is_op, begins_statement, marked}
+use Rattle.kt_grammar.specs.TypesBuilt.{no_span, span_of}
+use Rattle.kt_grammar.proofs.Extents.{between_is}
+use Rattle.kt_grammar.proofs.Progress.{goes_on}
+use Rattle.kt_grammar.proofs.Steps.{has_both, read_one, read_both, read_row}
+use Rattle.kt_grammar.proofs.TypeRows.{stretch, has_op}
 use Rattle.kt_bodies.specs.Statements.{to_brace, before_brace}
 use Rattle.kt_bodies.proofs.Sequences.{IsSequence, turn_part}
 

@@ -8,11 +8,11 @@ use Rattle.kt_bodies.specs.declared.terminals.Terminal.TheVariants as terminal
 use Rattle.kt_bodies.specs.Terminals.{is_terminal, NameMoved}
 use Rattle.kt_lexer.specs.declared.token.Token.{Token}
 use Rattle.kt_lexer.specs.declared.token.TokenKind.TheVariants as kind
-use Rattle.kt_parser.specs.declared.cursor.Cursor.{Cursor}
-use Rattle.kt_parser.specs.Parsed.{WordAt}
-use Rattle.kt_parser.specs.Tokens.{keyword_class}
-use Rattle.kt_parser.specs.TypesBuilt.{no_span}
-use Rattle.kt_parser.proofs.SingleTokens.{word_token, takes_name}
+use Rattle.kt_grammar.specs.declared.cursor.Cursor.{Cursor}
+use Rattle.kt_grammar.specs.Parsed.{WordAt}
+use Rattle.kt_grammar.specs.Tokens.{keyword_class}
+use Rattle.kt_grammar.specs.TypesBuilt.{no_span}
+use Rattle.kt_grammar.proofs.SingleTokens.{word_token, takes_name}
 
 named : ℕ → Token
 named n = record { kind = kind.Name n; span = no_span; marked = false }

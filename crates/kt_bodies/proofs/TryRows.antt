@@ -20,21 +20,21 @@ use Rattle.kt_lexer.specs.declared.token.Token.{Token}
 use Rattle.kt_lexer.specs.declared.token.TokenKind.TheVariants as kind
 use Rattle.kt_lexer.specs.declared.token.Operator.TheVariants as operator
 use Rattle.kt_lexer.specs.declared.token.Keyword.TheVariants as keyword
-use Rattle.kt_parser.specs.declared.cursor.Cursor.{Cursor}
-use Rattle.kt_parser.specs.Built as built
-use Rattle.kt_parser.specs.Lookahead.{catch_clause, finally_clause}
-use Rattle.kt_parser.specs.Moves.{Moved}
-use Rattle.kt_parser.specs.Parsed.{Advanced, Halts, Advances, Taken}
-use Rattle.kt_parser.specs.Rows as rows
-use Rattle.kt_parser.specs.Rows.{Row, grammar, op, word}
-use Rattle.kt_parser.specs.Tokens.{is_op, is_word, is_name, is_catch, is_finally}
-use Rattle.kt_parser.specs.TypesBuilt as types_built
-use Rattle.kt_parser.specs.TypesBuilt.{no_span, span_of, word_of, between, last_of, or_else}
-use Rattle.kt_parser.proofs.Advances.{halts_row, halts_left, halts_second, halts_after}
-use Rattle.kt_parser.proofs.Extents.{between_is, placed}
-use Rattle.kt_parser.proofs.Progress.{goes_on}
-use Rattle.kt_parser.proofs.Steps.{BegunAt, has_both, read_one, read_both, read_row, read_first, read_second, read_nothing}
-use Rattle.kt_parser.proofs.TypeRows.{stretch, first_taken, has_op, has_name, has_type}
+use Rattle.kt_grammar.specs.declared.cursor.Cursor.{Cursor}
+use Rattle.kt_grammar.specs.Built as built
+use Rattle.kt_grammar.specs.Lookahead.{catch_clause, finally_clause}
+use Rattle.kt_grammar.specs.Moves.{Moved}
+use Rattle.kt_grammar.specs.Parsed.{Advanced, Halts, Advances, Taken}
+use Rattle.kt_grammar.specs.Rows as rows
+use Rattle.kt_grammar.specs.Rows.{Row, grammar, op, word}
+use Rattle.kt_grammar.specs.Tokens.{is_op, is_word, is_name, is_catch, is_finally}
+use Rattle.kt_grammar.specs.TypesBuilt as types_built
+use Rattle.kt_grammar.specs.TypesBuilt.{no_span, span_of, word_of, between, last_of, or_else}
+use Rattle.kt_grammar.proofs.Advances.{halts_row, halts_left, halts_second, halts_after}
+use Rattle.kt_grammar.proofs.Extents.{between_is, placed}
+use Rattle.kt_grammar.proofs.Progress.{goes_on}
+use Rattle.kt_grammar.proofs.Steps.{BegunAt, has_both, read_one, read_both, read_row, read_first, read_second, read_nothing}
+use Rattle.kt_grammar.proofs.TypeRows.{stretch, first_taken, has_op, has_name, has_type}
 
 -- ---- parts have derivations
 

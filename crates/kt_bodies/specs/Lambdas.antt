@@ -6,12 +6,12 @@ use Rattle.kt_bodies.specs.declared.lambdas.Inside.{Inside}
 use Rattle.kt_bodies.specs.Statements.{to_brace, before_brace}
 use Rattle.kt_lexer.specs.declared.token.Token.{Token}
 use Rattle.kt_lexer.specs.declared.token.Operator.TheVariants as operator
-use Rattle.kt_parser.specs.Built as built
-use Rattle.kt_parser.specs.Lookahead.{parameters}
-use Rattle.kt_parser.specs.Rows as rows
-use Rattle.kt_parser.specs.Rows.{Row, op, maybe}
-use Rattle.kt_parser.specs.Tokens.{is_op, is_name}
-use Rattle.kt_parser.specs.TypesBuilt.{word_of}
+use Rattle.kt_grammar.specs.Built as built
+use Rattle.kt_grammar.specs.Lookahead.{parameters}
+use Rattle.kt_grammar.specs.Rows as rows
+use Rattle.kt_grammar.specs.Rows.{Row, op, maybe}
+use Rattle.kt_grammar.specs.Tokens.{is_op, is_name}
+use Rattle.kt_grammar.specs.TypesBuilt.{word_of}
 
 -- what follows the first name of parameters
 abbrev pub parameter_end : Token → Bool

@@ -2,8 +2,8 @@
 use Rattle.std.specs.Prelude.{◌≡◌, ◌+◌, ◌≤◌, max, Bool, List, length, drop}
 use Rattle.grammars.specs.Grammar.{Test, Part, Begun}
 use Rattle.kt_lexer.specs.declared.token.Token.{Token}
-use Rattle.kt_parser.specs.declared.cursor.Cursor.{Cursor}
-use Rattle.kt_parser.specs.Rows.{Row, grammar}
+use Rattle.kt_grammar.specs.declared.cursor.Cursor.{Cursor}
+use Rattle.kt_grammar.specs.Rows.{Row, grammar}
 
 -- What a test says at a place, and the same place with how far it looks. What it has gone over begins a list with a derivation of the part.
 pub record Looked (f : Test Token) (a : Part Row Token) (ts : List Token) (start mid : Cursor) (holds : Bool) : Type 0 where

@@ -7,13 +7,13 @@ use Rattle.kc_text.specs.declared.errors.Fail.{Fail}
 use Rattle.kc_tree.specs.declared.expr.Expr.{Expr}
 use Rattle.kt_lexer.specs.declared.token.Token.{Token}
 use Rattle.kt_lexer.specs.declared.token.Operator.TheVariants as operator
-use Rattle.kt_parser.specs.declared.cursor.Cursor.{Cursor}
-use Rattle.kt_parser.specs.Built as built
-use Rattle.kt_parser.specs.Moves.{Moved}
-use Rattle.kt_parser.specs.Parsed.{Advances}
-use Rattle.kt_parser.specs.Rows as rows
-use Rattle.kt_parser.specs.Rows.{Row, op}
-use Rattle.kt_parser.specs.Tokens.{is_op}
+use Rattle.kt_grammar.specs.declared.cursor.Cursor.{Cursor}
+use Rattle.kt_grammar.specs.Built as built
+use Rattle.kt_grammar.specs.Moves.{Moved}
+use Rattle.kt_grammar.specs.Parsed.{Advances}
+use Rattle.kt_grammar.specs.Rows as rows
+use Rattle.kt_grammar.specs.Rows.{Row, op}
+use Rattle.kt_grammar.specs.Tokens.{is_op}
 
 -- it reads one at each place from one on
 pub record ReadsStatement (ts : List Token) (from : ℕ) (pre : Global → Bor (List Token) → Cursor → Type 0)

@@ -6,10 +6,10 @@ use Rattle.kc_tree.specs.declared.types.Word.{Word}
 use Rattle.kt_bodies.specs.declared.terminals.Terminal.{Terminal}
 use Rattle.kt_bodies.specs.declared.terminals.Terminal.TheVariants as terminal
 use Rattle.kt_lexer.specs.declared.token.Token.{Token}
-use Rattle.kt_parser.specs.declared.cursor.Cursor.{Cursor}
-use Rattle.kt_parser.specs.Parsed.{Taken, Halts}
-use Rattle.kt_parser.specs.Tokens.{is_of, is_name, keyword_class}
-use Rattle.kt_parser.specs.TypesBuilt.{word_of}
+use Rattle.kt_grammar.specs.declared.cursor.Cursor.{Cursor}
+use Rattle.kt_grammar.specs.Parsed.{Taken, Halts}
+use Rattle.kt_grammar.specs.Tokens.{is_of, is_name, keyword_class}
+use Rattle.kt_grammar.specs.TypesBuilt.{word_of}
 
 abbrev pub terminal_class : Terminal → ℕ
 terminal_class (terminal.Word k) = keyword_class k

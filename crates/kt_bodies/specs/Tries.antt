@@ -8,12 +8,12 @@ use Rattle.kc_tree.specs.declared.types.«Type».{«Type»}
 use Rattle.kt_bodies.specs.declared.tries.Clauses.{Clauses}
 use Rattle.kt_lexer.specs.declared.token.Token.{Token}
 use Rattle.kt_lexer.specs.declared.token.Operator.TheVariants as operator
-use Rattle.kt_parser.specs.Built as built
-use Rattle.kt_parser.specs.Lookahead.{catch_clause, finally_clause}
-use Rattle.kt_parser.specs.Rows as rows
-use Rattle.kt_parser.specs.Rows.{Row, op, in_brackets}
-use Rattle.kt_parser.specs.Tokens.{is_name, is_catch, is_finally}
-use Rattle.kt_parser.specs.TypesBuilt.{no_span, no_type, word_of, type_of, between, last_of}
+use Rattle.kt_grammar.specs.Built as built
+use Rattle.kt_grammar.specs.Lookahead.{catch_clause, finally_clause}
+use Rattle.kt_grammar.specs.Rows as rows
+use Rattle.kt_grammar.specs.Rows.{Row, op, in_brackets}
+use Rattle.kt_grammar.specs.Tokens.{is_name, is_catch, is_finally}
+use Rattle.kt_grammar.specs.TypesBuilt.{no_span, no_type, word_of, type_of, between, last_of}
 
 -- the variable of a clause that catches, in its brackets
 abbrev pub caught : Part Row Token

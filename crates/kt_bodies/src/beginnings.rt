@@ -1,11 +1,11 @@
 //! With which tokens statements begin.
 ghost use Rattle.std.specs.Prelude.{◌≡◌, drop};
 ghost use Rattle.grammars.specs.Grammar.{first, test};
-ghost use Rattle.kt_parser.specs.Beginnings.{of_kind};
-ghost use Rattle.kt_parser.specs.Tokens as tokens_of;
+ghost use Rattle.kt_grammar.specs.Beginnings.{of_kind};
+ghost use Rattle.kt_grammar.specs.Tokens as tokens_of;
 
+use kt_grammar::begins_expression;
 use kt_lexer::{Keyword, Token, TokenKind};
-use kt_parser::begins_expression;
 
 fn is_local(kind: &TokenKind) -> bool
     ensures { result ≡ tokens_of.is_local (of_kind kind.now) }

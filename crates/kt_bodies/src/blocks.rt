@@ -2,18 +2,18 @@
 ghost use Rattle.std.specs.Prelude.{◌≡◌, ◌≤◌, ◌++◌, ◌∷◌, [], length};
 ghost use Rattle.grammars.specs.Grammar.{row};
 ghost use Rattle.kt_bodies.specs.Statements.{ReadsStatement, AllSemicolons, Follows, to_brace, before_brace};
-ghost use Rattle.kt_parser.specs.Built as built;
-ghost use Rattle.kt_parser.specs.Parsed.{Advances};
-ghost use Rattle.kt_parser.specs.Rows as rows;
-ghost use Rattle.kt_parser.specs.Tokens.{begins_statement, marked};
+ghost use Rattle.kt_grammar.specs.Built as built;
+ghost use Rattle.kt_grammar.specs.Parsed.{Advances};
+ghost use Rattle.kt_grammar.specs.Rows as rows;
+ghost use Rattle.kt_grammar.specs.Tokens.{begins_statement, marked};
 
 use crate::beginnings::{begins_marked_statement, begins_statement};
 use crate::bodies::Bodies;
 use crate::nodes::block;
 use kc_text::Fail;
 use kc_tree::Expr;
+use kt_grammar::{Cursor, eat_op_on, expect_op_on, span_between};
 use kt_lexer::{Operator, Token};
-use kt_parser::{Cursor, eat_op_on, expect_op_on, span_between};
 use sqlite_items::Items;
 use std::alloc::Global;
 

@@ -1,15 +1,15 @@
 //! The rows of the grammar that hold statements, over the functions that read an expression and a statement.
 ghost use Rattle.std.specs.Prelude.{◌≤◌, length};
 ghost use Rattle.grammars.specs.Grammar.{row};
-ghost use Rattle.kt_parser.specs.Built as built;
-ghost use Rattle.kt_parser.specs.Expressions.{ReadsExpression};
-ghost use Rattle.kt_parser.specs.Parsed.{Advances};
-ghost use Rattle.kt_parser.specs.Rows as rows;
+ghost use Rattle.kt_grammar.specs.Built as built;
+ghost use Rattle.kt_grammar.specs.Expressions.{ReadsExpression};
+ghost use Rattle.kt_grammar.specs.Parsed.{Advances};
+ghost use Rattle.kt_grammar.specs.Rows as rows;
 
 use kc_text::Fail;
 use kc_tree::Expr;
+use kt_grammar::Cursor;
 use kt_lexer::Token;
-use kt_parser::Cursor;
 use std::alloc::Global;
 
 /// The rows of the grammar that hold statements, each a method.

@@ -3,9 +3,9 @@ ghost use Rattle.std.specs.Prelude.{◌≡◌, ◌≤◌, ◌++◌, length};
 ghost use Rattle.grammars.specs.Grammar.{row};
 ghost use Rattle.kt_bodies.specs.Lambdas as spec;
 ghost use Rattle.kt_bodies.specs.Statements.{ReadsStatement};
-ghost use Rattle.kt_parser.specs.Built as built;
-ghost use Rattle.kt_parser.specs.Parsed.{Advances};
-ghost use Rattle.kt_parser.specs.Rows as rows;
+ghost use Rattle.kt_grammar.specs.Built as built;
+ghost use Rattle.kt_grammar.specs.Parsed.{Advances};
+ghost use Rattle.kt_grammar.specs.Rows as rows;
 
 use crate::bodies::Bodies;
 use crate::looks::look_for_parameters;
@@ -13,10 +13,10 @@ use crate::nodes::lambda;
 use crate::terminals::expect_name_on;
 use kc_text::Fail;
 use kc_tree::{Expr, LocalName, Type, Word};
-use kt_lexer::{Operator, Token};
-use kt_parser::{
+use kt_grammar::{
     Cursor, eat_op_on, expect_op_on, is_name_at, is_op_at, span_between, type_before_arrow,
 };
+use kt_lexer::{Operator, Token};
 use sqlite_items::Items;
 use std::alloc::Global;
 

@@ -4,12 +4,12 @@ ghost use Rattle.grammars.specs.Grammar.{row, first, test};
 ghost use Rattle.kt_bodies.specs.Lambdas.{behind_parameters, parameter_end};
 ghost use Rattle.kt_bodies.specs.Looks.{Looked};
 ghost use Rattle.kt_bodies.specs.Tries.{last_clause};
-ghost use Rattle.kt_parser.specs.Lookahead as tests;
-ghost use Rattle.kt_parser.specs.Rows as rows;
+ghost use Rattle.kt_grammar.specs.Lookahead as tests;
+ghost use Rattle.kt_grammar.specs.Rows as rows;
 
 use crate::terminals::{Terminal, eat_on};
+use kt_grammar::{Cursor, eat_name, eat_op_on, is_op_at};
 use kt_lexer::{Operator, Token};
-use kt_parser::{Cursor, eat_name, eat_op_on, is_op_at};
 
 /// Whether the parameters of a lambda with their `->` stand at the place: a name, and `,`, `:` or `->`.
 pub fn look_for_parameters(tokens: &[Token], at: Cursor) -> (bool, Cursor)

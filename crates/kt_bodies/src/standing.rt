@@ -1,7 +1,7 @@
 //! What stands as a body (Kotlin Language Specification 1.9, "Syntax grammar", `controlStructureBody`).
 ghost use Rattle.std.specs.Prelude.{◌≡◌};
 ghost use Rattle.kc_tree.specs.declared.expr.ExprKind.TheVariants as kinds;
-ghost use Rattle.kt_parser.specs.Built as built;
+ghost use Rattle.kt_grammar.specs.Built as built;
 
 use kc_tree::{Expr, ExprKind, LocalName, Word};
 use sqlite_items::Items;

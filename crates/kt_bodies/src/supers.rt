@@ -2,16 +2,16 @@
 ghost use Rattle.std.specs.Prelude.{◌≤◌, length};
 ghost use Rattle.grammars.specs.Grammar.{row};
 ghost use Rattle.kt_bodies.specs.Supers as spec;
-ghost use Rattle.kt_parser.specs.Built as built;
-ghost use Rattle.kt_parser.specs.Parsed.{Advances};
-ghost use Rattle.kt_parser.specs.Rows as rows;
+ghost use Rattle.kt_grammar.specs.Built as built;
+ghost use Rattle.kt_grammar.specs.Parsed.{Advances};
+ghost use Rattle.kt_grammar.specs.Rows as rows;
 
 use crate::nodes::super_member;
 use crate::terminals::{Terminal, expect_name_on, expect_on};
 use kc_text::Fail;
 use kc_tree::{Expr, Type};
+use kt_grammar::{Cursor, behind, eat_op_on, expect_op_on, span_between, type_at};
 use kt_lexer::{Keyword, Operator, Token};
-use kt_parser::{Cursor, behind, eat_op_on, expect_op_on, span_between, type_at};
 use std::alloc::Global;
 
 /// The superclass in `<` and `>`, or nothing.

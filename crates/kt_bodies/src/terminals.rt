@@ -1,12 +1,12 @@
 //! Single tokens, with how far tests have looked.
 ghost use Rattle.std.specs.Prelude.{◌≡◌, ◌≤◌, length};
 ghost use Rattle.kt_bodies.specs.Terminals as spec;
-ghost use Rattle.kt_parser.specs.Moves.{EatsOn, ExpectsOn};
+ghost use Rattle.kt_grammar.specs.Moves.{EatsOn, ExpectsOn};
 
 use kc_text::Fail;
 use kc_tree::Word;
+use kt_grammar::{Cursor, eat, keyword_class, word_at};
 use kt_lexer::{Keyword, Token};
-use kt_parser::{Cursor, eat, keyword_class, word_at};
 
 /// A token that has no more to it than its class.
 #[derive(Clone, Copy)]

@@ -3,9 +3,9 @@ ghost use Rattle.std.specs.Prelude.{◌≡◌, ◌≤◌, ◌++◌, ◌∷◌, [
 ghost use Rattle.grammars.specs.Grammar.{row, first};
 ghost use Rattle.kt_bodies.specs.Statements.{ReadsStatement};
 ghost use Rattle.kt_bodies.specs.Tries as spec;
-ghost use Rattle.kt_parser.specs.Built as built;
-ghost use Rattle.kt_parser.specs.Parsed.{Advances};
-ghost use Rattle.kt_parser.specs.Rows as rows;
+ghost use Rattle.kt_grammar.specs.Built as built;
+ghost use Rattle.kt_grammar.specs.Parsed.{Advances};
+ghost use Rattle.kt_grammar.specs.Rows as rows;
 
 use crate::bodies::Bodies;
 use crate::looks::{look_for_catch, look_for_finally};
@@ -13,8 +13,8 @@ use crate::nodes::tried;
 use crate::terminals::{Terminal, expect_name_on, expect_on};
 use kc_text::Fail;
 use kc_tree::{CatchPart, Expr, Type, Word};
+use kt_grammar::{Cursor, behind, expect_op_on, is_at, span_between, type_at};
 use kt_lexer::{Keyword, Operator, Token};
-use kt_parser::{Cursor, behind, expect_op_on, is_at, span_between, type_at};
 use sqlite_items::{Boxed, Items};
 use std::alloc::Global;
 

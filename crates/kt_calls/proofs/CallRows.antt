@@ -10,21 +10,21 @@ use Rattle.kc_tree.specs.declared.expr.Expr.{Expr}
 use Rattle.kt_calls.specs.Calls.{label_before, on_line_of, maybe_on_line, maybe_on_line_of, in_brackets, in_brackets_of, with_brackets, with_brackets_of}
 use Rattle.kt_lexer.specs.declared.token.Token.{Token}
 use Rattle.kt_lexer.specs.declared.token.Operator.TheVariants as operator
-use Rattle.kt_parser.specs.declared.cursor.Cursor.{Cursor}
-use Rattle.kt_parser.specs.Built as built
-use Rattle.kt_parser.specs.Moves.{Moved}
-use Rattle.kt_parser.specs.Parsed.{Advanced, Halts, Advances}
-use Rattle.kt_parser.specs.Rows as rows
-use Rattle.kt_parser.specs.Rows.{grammar, op}
-use Rattle.kt_parser.specs.Signs.{TokenTaken}
-use Rattle.kt_parser.specs.Tokens.{is_op, is_label, unmarked, begins_trailing}
-use Rattle.kt_parser.specs.TypesBuilt.{word_of}
-use Rattle.kt_parser.proofs.Advances.{halts_row, halts_left, halts_right, halts_second, halts_as, refused_guard, read_guard, not_guarded}
-use Rattle.kt_parser.proofs.Extents.{between_is}
-use Rattle.kt_parser.proofs.Progress.{goes_on}
-use Rattle.kt_parser.proofs.SingleTokens.{op_token}
-use Rattle.kt_parser.proofs.Steps.{standing, has_both, read_one, read_both, read_row, read_first, read_second, read_nothing}
-use Rattle.kt_parser.proofs.TypeRows.{stretch, has_op}
+use Rattle.kt_grammar.specs.declared.cursor.Cursor.{Cursor}
+use Rattle.kt_grammar.specs.Built as built
+use Rattle.kt_grammar.specs.Moves.{Moved}
+use Rattle.kt_grammar.specs.Parsed.{Advanced, Halts, Advances}
+use Rattle.kt_grammar.specs.Rows as rows
+use Rattle.kt_grammar.specs.Rows.{grammar, op}
+use Rattle.kt_grammar.specs.Signs.{TokenTaken}
+use Rattle.kt_grammar.specs.Tokens.{is_op, is_label, unmarked, begins_trailing}
+use Rattle.kt_grammar.specs.TypesBuilt.{word_of}
+use Rattle.kt_grammar.proofs.Advances.{halts_row, halts_left, halts_right, halts_second, halts_as, refused_guard, read_guard, not_guarded}
+use Rattle.kt_grammar.proofs.Extents.{between_is}
+use Rattle.kt_grammar.proofs.Progress.{goes_on}
+use Rattle.kt_grammar.proofs.SingleTokens.{op_token}
+use Rattle.kt_grammar.proofs.Steps.{standing, has_both, read_one, read_both, read_row, read_first, read_second, read_nothing}
+use Rattle.kt_grammar.proofs.TypeRows.{stretch, has_op}
 
 -- ---- parts have derivations
 

@@ -6,8 +6,8 @@ use Rattle.kt_calls.specs.Marks.{is_mark}
 use Rattle.kt_lexer.specs.declared.token.Token.{Token}
 use Rattle.kt_lexer.specs.declared.token.TokenKind.TheVariants as kind
 use Rattle.kt_lexer.specs.declared.token.Operator.TheVariants as operator
-use Rattle.kt_parser.specs.TypesBuilt.{no_span}
-use Rattle.kt_parser.proofs.SingleTokens.{op_token}
+use Rattle.kt_grammar.specs.TypesBuilt.{no_span}
+use Rattle.kt_grammar.proofs.SingleTokens.{op_token}
 
 abbrev pub sample : Mark → Token
 sample mark.Label = record { kind = kind.Label 0; span = no_span; marked = false }

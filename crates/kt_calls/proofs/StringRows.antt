@@ -13,21 +13,21 @@ use Rattle.kt_calls.specs.declared.marks.Mark.TheVariants as mark
 use Rattle.kt_calls.specs.Marks.{is_mark}
 use Rattle.kt_calls.specs.Strings.{text_piece, text_piece_of, name_piece, name_piece_of, hole, hole_of, any_piece, any_piece_of, all_pieces}
 use Rattle.kt_calls.proofs.MarkRows.{sample, is_sample}
-use Rattle.kt_parser.proofs.OperatorRows.{has_expression}
+use Rattle.kt_grammar.proofs.OperatorRows.{has_expression}
 use Rattle.kt_lexer.specs.declared.token.Token.{Token}
-use Rattle.kt_parser.specs.declared.cursor.Cursor.{Cursor}
-use Rattle.kt_parser.specs.Built as built
-use Rattle.kt_parser.specs.Parsed.{Advanced, Advances}
-use Rattle.kt_parser.specs.Rows as rows
-use Rattle.kt_parser.specs.Rows.{grammar}
-use Rattle.kt_parser.specs.Signs.{TokenTaken}
-use Rattle.kt_parser.specs.Tokens.{is_string_open, is_string_text, is_string_name, is_string_close, is_hole_open, is_hole_close, is_piece}
-use Rattle.kt_parser.specs.TypesBuilt.{word_of}
-use Rattle.kt_parser.proofs.Advances.{turn_on, turns_end}
-use Rattle.kt_parser.proofs.Extents.{between_is}
-use Rattle.kt_parser.proofs.Progress.{goes_on}
-use Rattle.kt_parser.proofs.Steps.{has_both, read_one, read_both, read_row}
-use Rattle.kt_parser.proofs.TypeRows.{stretch}
+use Rattle.kt_grammar.specs.declared.cursor.Cursor.{Cursor}
+use Rattle.kt_grammar.specs.Built as built
+use Rattle.kt_grammar.specs.Parsed.{Advanced, Advances}
+use Rattle.kt_grammar.specs.Rows as rows
+use Rattle.kt_grammar.specs.Rows.{grammar}
+use Rattle.kt_grammar.specs.Signs.{TokenTaken}
+use Rattle.kt_grammar.specs.Tokens.{is_string_open, is_string_text, is_string_name, is_string_close, is_hole_open, is_hole_close, is_piece}
+use Rattle.kt_grammar.specs.TypesBuilt.{word_of}
+use Rattle.kt_grammar.proofs.Advances.{turn_on, turns_end}
+use Rattle.kt_grammar.proofs.Extents.{between_is}
+use Rattle.kt_grammar.proofs.Progress.{goes_on}
+use Rattle.kt_grammar.proofs.Steps.{has_both, read_one, read_both, read_row}
+use Rattle.kt_grammar.proofs.TypeRows.{stretch}
 
 -- ---- parts have derivations
 

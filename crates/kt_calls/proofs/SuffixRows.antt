@@ -19,28 +19,28 @@ use Rattle.kt_calls.specs.Suffixes.{ended, postfix_operator, operator_of, member
 use Rattle.kt_calls.proofs.CallRows.{opening, closing, braces, a_lambda}
 use Rattle.kt_lexer.specs.declared.token.Token.{Token}
 use Rattle.kt_lexer.specs.declared.token.Operator.TheVariants as operator
-use Rattle.kt_parser.specs.declared.cursor.Cursor.{Cursor}
-use Rattle.kt_parser.specs.declared.lookahead.Frame.TheVariants as frame
-use Rattle.kt_parser.specs.declared.lookahead.Goal.TheVariants as goal
-use Rattle.kt_parser.specs.declared.lookahead.Mode.TheVariants as mode
-use Rattle.kt_parser.specs.declared.lookahead.Place.{Place}
-use Rattle.kt_parser.specs.Built as built
-use Rattle.kt_parser.specs.Lookahead.{step, at_end, operand_end, opens, suffix_follows}
-use Rattle.kt_parser.specs.Moves.{Moved}
-use Rattle.kt_parser.specs.Parsed.{Advanced, Advances}
-use Rattle.kt_parser.specs.Rows as rows
-use Rattle.kt_parser.specs.Rows.{Row, grammar, op}
-use Rattle.kt_parser.specs.Signs.{TokenTaken}
-use Rattle.kt_parser.specs.Tokens.{is_op, is_dot, is_postfix, unmarked, begins_trailing}
-use Rattle.kt_parser.specs.TypesBuilt.{between, type_arguments_of}
-use Rattle.kt_parser.proofs.OperatorRows.{has_expression}
-use Rattle.kt_parser.proofs.Advances.{halts_left, halts_right, halts_second, halts_after, halts_as, refused_guard, read_guard}
-use Rattle.kt_parser.proofs.Extents.{between_is, placed}
-use Rattle.kt_parser.proofs.OperandRows.{Formed, formed_as}
-use Rattle.kt_parser.proofs.Progress.{goes_on}
-use Rattle.kt_parser.proofs.SingleTokens.{a_name, op_token}
-use Rattle.kt_parser.proofs.Steps.{BegunAt, begun_to, by_order, standing, has_both, read_one, read_both, read_row, read_first, read_second, read_nothing}
-use Rattle.kt_parser.proofs.TypeRows.{stretch, has_op}
+use Rattle.kt_grammar.specs.declared.cursor.Cursor.{Cursor}
+use Rattle.kt_grammar.specs.declared.lookahead.Frame.TheVariants as frame
+use Rattle.kt_grammar.specs.declared.lookahead.Goal.TheVariants as goal
+use Rattle.kt_grammar.specs.declared.lookahead.Mode.TheVariants as mode
+use Rattle.kt_grammar.specs.declared.lookahead.Place.{Place}
+use Rattle.kt_grammar.specs.Built as built
+use Rattle.kt_grammar.specs.Lookahead.{step, at_end, operand_end, opens, suffix_follows}
+use Rattle.kt_grammar.specs.Moves.{Moved}
+use Rattle.kt_grammar.specs.Parsed.{Advanced, Advances}
+use Rattle.kt_grammar.specs.Rows as rows
+use Rattle.kt_grammar.specs.Rows.{Row, grammar, op}
+use Rattle.kt_grammar.specs.Signs.{TokenTaken}
+use Rattle.kt_grammar.specs.Tokens.{is_op, is_dot, is_postfix, unmarked, begins_trailing}
+use Rattle.kt_grammar.specs.TypesBuilt.{between, type_arguments_of}
+use Rattle.kt_grammar.proofs.OperatorRows.{has_expression}
+use Rattle.kt_grammar.proofs.Advances.{halts_left, halts_right, halts_second, halts_after, halts_as, refused_guard, read_guard}
+use Rattle.kt_grammar.proofs.Extents.{between_is, placed}
+use Rattle.kt_grammar.proofs.OperandRows.{Formed, formed_as}
+use Rattle.kt_grammar.proofs.Progress.{goes_on}
+use Rattle.kt_grammar.proofs.SingleTokens.{a_name, op_token}
+use Rattle.kt_grammar.proofs.Steps.{BegunAt, begun_to, by_order, standing, has_both, read_one, read_both, read_row, read_first, read_second, read_nothing}
+use Rattle.kt_grammar.proofs.TypeRows.{stretch, has_op}
 
 -- ---- parts have derivations
 

@@ -4,10 +4,10 @@ use Rattle.grammars.specs.Grammar.{Part, one, row, both, Cst, node, pair, left}
 use Rattle.kc_tree.specs.declared.expr.Arg.{Arg}
 use Rattle.kt_lexer.specs.declared.token.Token.{Token}
 use Rattle.kt_lexer.specs.declared.token.Operator.TheVariants as operator
-use Rattle.kt_parser.specs.Built as built
-use Rattle.kt_parser.specs.Rows as rows
-use Rattle.kt_parser.specs.Rows.{Row, op, maybe}
-use Rattle.kt_parser.specs.Tokens.{is_op, is_label, unmarked, begins_trailing}
+use Rattle.kt_grammar.specs.Built as built
+use Rattle.kt_grammar.specs.Rows as rows
+use Rattle.kt_grammar.specs.Rows.{Row, op, maybe}
+use Rattle.kt_grammar.specs.Tokens.{is_op, is_label, unmarked, begins_trailing}
 
 abbrev pub label_before : Part Row Token
 label_before = maybe is_label (one is_label)

@@ -7,10 +7,10 @@ use Rattle.kt_calls.specs.declared.marks.Mark.{Mark}
 use Rattle.kt_calls.specs.declared.marks.Mark.TheVariants as mark
 use Rattle.kt_lexer.specs.declared.token.Token.{Token}
 use Rattle.kt_lexer.specs.declared.token.Operator.TheVariants as operator
-use Rattle.kt_parser.specs.declared.cursor.Cursor.{Cursor}
-use Rattle.kt_parser.specs.Parsed.{Halts}
-use Rattle.kt_parser.specs.Signs.{TokenTaken}
-use Rattle.kt_parser.specs.Tokens.{is_op, is_label, is_dot, is_postfix, unmarked, is_string_open, is_string_text, is_string_name, is_hole_open, is_hole_close, is_string_close, is_piece}
+use Rattle.kt_grammar.specs.declared.cursor.Cursor.{Cursor}
+use Rattle.kt_grammar.specs.Parsed.{Halts}
+use Rattle.kt_grammar.specs.Signs.{TokenTaken}
+use Rattle.kt_grammar.specs.Tokens.{is_op, is_label, is_dot, is_postfix, unmarked, is_string_open, is_string_text, is_string_name, is_hole_open, is_hole_close, is_string_close, is_piece}
 
 abbrev pub is_mark : Mark → Token → Bool
 is_mark mark.Label = is_label

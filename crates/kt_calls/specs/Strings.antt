@@ -4,11 +4,11 @@ use Rattle.grammars.specs.Grammar.{Part, next, one, row, both, choose, many, Cst
 use Rattle.kc_tree.specs.declared.expr.Piece.{Piece}
 use Rattle.kc_tree.specs.declared.expr.Piece.TheVariants as piece
 use Rattle.kt_lexer.specs.declared.token.Token.{Token}
-use Rattle.kt_parser.specs.Built as built
-use Rattle.kt_parser.specs.Rows as rows
-use Rattle.kt_parser.specs.Rows.{Row}
-use Rattle.kt_parser.specs.Tokens.{is_string_text, is_string_name, is_hole_open, is_hole_close, is_piece}
-use Rattle.kt_parser.specs.TypesBuilt.{word_of}
+use Rattle.kt_grammar.specs.Built as built
+use Rattle.kt_grammar.specs.Rows as rows
+use Rattle.kt_grammar.specs.Rows.{Row}
+use Rattle.kt_grammar.specs.Tokens.{is_string_text, is_string_name, is_hole_open, is_hole_close, is_piece}
+use Rattle.kt_grammar.specs.TypesBuilt.{word_of}
 
 -- what no derivation has
 abbrev pub no_piece : Piece

@@ -11,12 +11,12 @@ use Rattle.kt_calls.specs.declared.nodes.EndingKind.{EndingKind}
 use Rattle.kt_calls.specs.declared.nodes.EndingKind.TheVariants as ending
 use Rattle.kt_lexer.specs.declared.token.Token.{Token}
 use Rattle.kt_lexer.specs.declared.token.Operator.TheVariants as operator
-use Rattle.kt_parser.specs.Built as built
-use Rattle.kt_parser.specs.Lookahead.{suffix_follows}
-use Rattle.kt_parser.specs.Rows as rows
-use Rattle.kt_parser.specs.Rows.{Row, op, maybe}
-use Rattle.kt_parser.specs.Tokens.{is_op, is_name, is_dot, is_postfix, unmarked}
-use Rattle.kt_parser.specs.TypesBuilt.{no_span, span_of, word_of, first_of, between, type_arguments_of}
+use Rattle.kt_grammar.specs.Built as built
+use Rattle.kt_grammar.specs.Lookahead.{suffix_follows}
+use Rattle.kt_grammar.specs.Rows as rows
+use Rattle.kt_grammar.specs.Rows.{Row, op, maybe}
+use Rattle.kt_grammar.specs.Tokens.{is_op, is_name, is_dot, is_postfix, unmarked}
+use Rattle.kt_grammar.specs.TypesBuilt.{no_span, span_of, word_of, first_of, between, type_arguments_of}
 
 -- ---- the operand with what stands behind it
 

@@ -3,18 +3,18 @@ ghost use Rattle.std.specs.Prelude.{◌≡◌, ◌≤◌, ◌++◌, ◌∷◌, [
 ghost use Rattle.grammars.specs.Grammar.{row};
 ghost use Rattle.kt_bodies.specs.Statements.{ReadsStatement};
 ghost use Rattle.kt_calls.specs.Calls as spec;
-ghost use Rattle.kt_parser.specs.Built as built;
-ghost use Rattle.kt_parser.specs.Expressions.{ReadsExpression};
-ghost use Rattle.kt_parser.specs.Parsed.{Advanced, Advances};
-ghost use Rattle.kt_parser.specs.Rows as rows;
+ghost use Rattle.kt_grammar.specs.Built as built;
+ghost use Rattle.kt_grammar.specs.Expressions.{ReadsExpression};
+ghost use Rattle.kt_grammar.specs.Parsed.{Advanced, Advances};
+ghost use Rattle.kt_grammar.specs.Rows as rows;
 
 use crate::marks::{Mark, begins_trailing_at, eat_mark, expect_mark, is_mark_at};
 use crate::nodes::trailing_argument;
 use kc_text::Fail;
 use kc_tree::{Arg, Expr, Word};
 use kt_bodies::Bodies;
+use kt_grammar::{Cursor, Operands, expect_op_on, span_between, word_of};
 use kt_lexer::{Operator, Token};
-use kt_parser::{Cursor, Operands, expect_op_on, span_between, word_of};
 use sqlite_items::Items;
 use std::alloc::Global;
 

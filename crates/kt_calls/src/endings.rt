@@ -5,11 +5,11 @@ ghost use Rattle.grammars.specs.Grammar.{row};
 ghost use Rattle.kt_bodies.specs.Looks.{Looked};
 ghost use Rattle.kt_bodies.specs.Statements.{ReadsStatement};
 ghost use Rattle.kt_calls.specs.Suffixes as spec;
-ghost use Rattle.kt_parser.specs.Built as built;
-ghost use Rattle.kt_parser.specs.Expressions.{ReadsExpression};
-ghost use Rattle.kt_parser.specs.Lookahead as tests;
-ghost use Rattle.kt_parser.specs.Parsed.{Advances};
-ghost use Rattle.kt_parser.specs.Rows as rows;
+ghost use Rattle.kt_grammar.specs.Built as built;
+ghost use Rattle.kt_grammar.specs.Expressions.{ReadsExpression};
+ghost use Rattle.kt_grammar.specs.Lookahead as tests;
+ghost use Rattle.kt_grammar.specs.Parsed.{Advances};
+ghost use Rattle.kt_grammar.specs.Rows as rows;
 
 use crate::calls::call;
 use crate::marks::{Mark, expect_mark, is_mark_at, span_at};
@@ -17,10 +17,10 @@ use crate::nodes::{Ending, call_ending, ended, index_ending, member_ending, oper
 use kc_text::Fail;
 use kc_tree::{Expr, TypeArg};
 use kt_bodies::{Bodies, expect_name_on};
-use kt_lexer::{Operator, Token};
-use kt_parser::{
+use kt_grammar::{
     Cursor, Operands, behind, eat_op_on, expect_op_on, span_between, suffix_follows, type_arguments,
 };
+use kt_lexer::{Operator, Token};
 use sqlite_items::Items;
 use std::alloc::{AllocError, Global};
 

@@ -2,15 +2,15 @@
 ghost use Rattle.std.specs.Prelude.{◌≡◌, ◌≤◌, Some, length, drop};
 ghost use Rattle.grammars.specs.Grammar.{first, test};
 ghost use Rattle.kt_calls.specs.Marks as spec;
-ghost use Rattle.kt_parser.specs.Signs.{EatsToken, TokenAt};
-ghost use Rattle.kt_parser.specs.Tokens as tokens_of;
-ghost use Rattle.kt_parser.specs.Tokens.{unmarked};
-ghost use Rattle.kt_parser.specs.TypesBuilt.{between};
+ghost use Rattle.kt_grammar.specs.Signs.{EatsToken, TokenAt};
+ghost use Rattle.kt_grammar.specs.Tokens as tokens_of;
+ghost use Rattle.kt_grammar.specs.Tokens.{unmarked};
+ghost use Rattle.kt_grammar.specs.TypesBuilt.{between};
 
 use kc_text::Fail;
 use kc_tree::Span;
+use kt_grammar::{Cursor, class, operator_class};
 use kt_lexer::{Operator, Token};
-use kt_parser::{Cursor, class, operator_class};
 
 /// What stands behind an operand or in a string.
 #[derive(Clone, Copy)]

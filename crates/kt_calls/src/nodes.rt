@@ -4,12 +4,12 @@ ghost use Rattle.kc_tree.specs.declared.expr.ExprKind.TheVariants as kinds;
 ghost use Rattle.kt_calls.specs.Suffixes as spec;
 ghost use Rattle.kt_calls.specs.declared.nodes.EndingKind.TheVariants as endings;
 ghost use Rattle.kt_lexer.specs.declared.token.TokenKind.TheVariants as token_kinds;
-ghost use Rattle.kt_parser.specs.Built as built;
+ghost use Rattle.kt_grammar.specs.Built as built;
 
 use kc_text::{Memory, Text};
 use kc_tree::{Arg, Expr, ExprKind, Piece, PostfixOp, Span, TypeArg, Word};
+use kt_grammar::{across, is_safe};
 use kt_lexer::{Operator, Token, TokenKind};
-use kt_parser::{across, is_safe};
 use sqlite_items::{Boxed, Items};
 use std::alloc::{AllocError, Global};
 

@@ -2,18 +2,18 @@
 ghost use Rattle.std.specs.Prelude.{◌≡◌, ◌≤◌, ◌++◌, ◌∷◌, [], length};
 ghost use Rattle.grammars.specs.Grammar.{row};
 ghost use Rattle.kt_calls.specs.Strings as spec;
-ghost use Rattle.kt_parser.specs.Built as built;
-ghost use Rattle.kt_parser.specs.Expressions.{ReadsExpression};
-ghost use Rattle.kt_parser.specs.Parsed.{Advances};
-ghost use Rattle.kt_parser.specs.Rows as rows;
+ghost use Rattle.kt_grammar.specs.Built as built;
+ghost use Rattle.kt_grammar.specs.Expressions.{ReadsExpression};
+ghost use Rattle.kt_grammar.specs.Parsed.{Advances};
+ghost use Rattle.kt_grammar.specs.Rows as rows;
 
 use crate::marks::{Mark, expect_mark, is_mark_at};
 use crate::nodes::{string_node, text_of};
 use kc_text::Fail;
 use kc_tree::{Expr, Piece};
 use kt_bodies::Bodies;
+use kt_grammar::{Cursor, span_between, word_of};
 use kt_lexer::Token;
-use kt_parser::{Cursor, span_between, word_of};
 use sqlite_items::Items;
 use std::alloc::Global;
 

@@ -13,23 +13,23 @@ use Rattle.kt_bodies.proofs.StatementRows.{has_statement}
 use Rattle.kt_control.specs.declared.conditionals.Arms.{Arms}
 use Rattle.kt_control.specs.Conditionals.{bracketed_of, body_of, semicolon, else_word, else_part, else_of, maybe_else, failed_of, behind_test, arms_of, last_place, Passed, ElseAt}
 use Rattle.kt_control.specs.Places.{place_of}
-use Rattle.kt_parser.proofs.OperatorRows.{has_expression}
+use Rattle.kt_grammar.proofs.OperatorRows.{has_expression}
 use Rattle.kt_control.proofs.TokenMoves.{has_word}
 use Rattle.kt_lexer.specs.declared.token.Token.{Token}
 use Rattle.kt_lexer.specs.declared.token.Keyword.TheVariants as keyword
 use Rattle.kt_lexer.specs.declared.token.Operator.TheVariants as operator
-use Rattle.kt_parser.specs.declared.cursor.Cursor.{Cursor}
-use Rattle.kt_parser.specs.Built as built
-use Rattle.kt_parser.specs.Built.{across}
-use Rattle.kt_parser.specs.Lookahead as tests
-use Rattle.kt_parser.specs.Lookahead.{Turn, else_step, else_at_end, else_follows}
-use Rattle.kt_parser.specs.Moves.{Moved}
-use Rattle.kt_parser.specs.Parsed.{Advanced, Taken}
-use Rattle.kt_parser.specs.Rows as rows
-use Rattle.kt_parser.specs.Rows.{Row, grammar, op, word, in_brackets}
-use Rattle.kt_parser.specs.Tokens.{class_of, is_op, is_word}
-use Rattle.kt_parser.proofs.Steps.{BegunAt, standing, has_both, read_one, read_both, read_row, read_first, read_second, read_nothing}
-use Rattle.kt_parser.proofs.TypeRows.{first_taken, has_op}
+use Rattle.kt_grammar.specs.declared.cursor.Cursor.{Cursor}
+use Rattle.kt_grammar.specs.Built as built
+use Rattle.kt_grammar.specs.Built.{across}
+use Rattle.kt_grammar.specs.Lookahead as tests
+use Rattle.kt_grammar.specs.Lookahead.{Turn, else_step, else_at_end, else_follows}
+use Rattle.kt_grammar.specs.Moves.{Moved}
+use Rattle.kt_grammar.specs.Parsed.{Advanced, Taken}
+use Rattle.kt_grammar.specs.Rows as rows
+use Rattle.kt_grammar.specs.Rows.{Row, grammar, op, word, in_brackets}
+use Rattle.kt_grammar.specs.Tokens.{class_of, is_op, is_word}
+use Rattle.kt_grammar.proofs.Steps.{BegunAt, standing, has_both, read_one, read_both, read_row, read_first, read_second, read_nothing}
+use Rattle.kt_grammar.proofs.TypeRows.{first_taken, has_op}
 
 -- ---- parts have derivations
 

@@ -10,24 +10,24 @@ use Rattle.kc_tree.specs.declared.expr.ExprKind.TheVariants as e
 use Rattle.kt_control.specs.Jumps.{on_line, value_on_line, return_, throw_, break_, return_of, throw_of, break_of, returned, kind_at}
 use Rattle.kt_control.specs.Labels.{label_use}
 use Rattle.kt_control.specs.Places.{place_of}
-use Rattle.kt_parser.proofs.OperatorRows.{an_expression}
+use Rattle.kt_grammar.proofs.OperatorRows.{an_expression}
 use Rattle.kt_control.proofs.TokenMoves.{has_label}
 use Rattle.kt_lexer.specs.declared.token.Token.{Token}
 use Rattle.kt_lexer.specs.declared.token.Keyword.TheVariants as keyword
-use Rattle.kt_parser.specs.declared.cursor.Cursor.{Cursor}
-use Rattle.kt_parser.specs.Built as built
-use Rattle.kt_parser.specs.Built.{across}
-use Rattle.kt_parser.specs.Moves.{Moved}
-use Rattle.kt_parser.specs.Parsed.{Advanced, Advances}
-use Rattle.kt_parser.specs.Rows as rows
-use Rattle.kt_parser.specs.Rows.{Row, grammar, word}
-use Rattle.kt_parser.specs.Tokens.{is_word, is_break, is_label_use, unmarked, begins_expression}
-use Rattle.kt_parser.proofs.Advances.{halts_as, halts_row, halts_left, halts_right, halts_second, halts_after, refused_guard, read_guard}
-use Rattle.kt_parser.proofs.Extents.{between_is}
-use Rattle.kt_parser.proofs.Progress.{goes_on}
-use Rattle.kt_parser.proofs.SingleTokens.{a_name}
-use Rattle.kt_parser.proofs.Steps.{has_both, read_one, read_both, read_row, read_first, read_second, read_nothing}
-use Rattle.kt_parser.proofs.TypeRows.{stretch, first_taken}
+use Rattle.kt_grammar.specs.declared.cursor.Cursor.{Cursor}
+use Rattle.kt_grammar.specs.Built as built
+use Rattle.kt_grammar.specs.Built.{across}
+use Rattle.kt_grammar.specs.Moves.{Moved}
+use Rattle.kt_grammar.specs.Parsed.{Advanced, Advances}
+use Rattle.kt_grammar.specs.Rows as rows
+use Rattle.kt_grammar.specs.Rows.{Row, grammar, word}
+use Rattle.kt_grammar.specs.Tokens.{is_word, is_break, is_label_use, unmarked, begins_expression}
+use Rattle.kt_grammar.proofs.Advances.{halts_as, halts_row, halts_left, halts_right, halts_second, halts_after, refused_guard, read_guard}
+use Rattle.kt_grammar.proofs.Extents.{between_is}
+use Rattle.kt_grammar.proofs.Progress.{goes_on}
+use Rattle.kt_grammar.proofs.SingleTokens.{a_name}
+use Rattle.kt_grammar.proofs.Steps.{has_both, read_one, read_both, read_row, read_first, read_second, read_nothing}
+use Rattle.kt_grammar.proofs.TypeRows.{stretch, first_taken}
 
 -- ---- parts have derivations
 

@@ -12,24 +12,24 @@ use Rattle.kt_bodies.specs.Terminals.{NameMoved}
 use Rattle.kt_control.specs.declared.locals.Declared.{Declared}
 use Rattle.kt_control.specs.Locals.{value_of, more_names, named, named_of, listed, listed_of, valued, in_round, in_round_of, only_one, type_end, type_end_of, with_type, with_type_of, behind_name, one_name, one_name_of, behind_word, declared_of, var_at}
 use Rattle.kt_control.specs.Places.{place_of}
-use Rattle.kt_parser.proofs.OperatorRows.{has_expression}
+use Rattle.kt_grammar.proofs.OperatorRows.{has_expression}
 use Rattle.kt_lexer.specs.declared.token.Token.{Token}
 use Rattle.kt_lexer.specs.declared.token.Operator.TheVariants as operator
-use Rattle.kt_parser.specs.declared.cursor.Cursor.{Cursor}
-use Rattle.kt_parser.specs.Built as built
-use Rattle.kt_parser.specs.Built.{across}
-use Rattle.kt_parser.specs.Moves.{Moved}
-use Rattle.kt_parser.specs.Parsed.{Advanced, Advances}
-use Rattle.kt_parser.specs.Rows as rows
-use Rattle.kt_parser.specs.Rows.{Row, grammar, op}
-use Rattle.kt_parser.specs.Tokens.{is_op, is_local}
-use Rattle.kt_parser.specs.TypesBuilt as types_built
-use Rattle.kt_parser.proofs.Advances.{halts_left, halts_right, halts_second, halts_after}
-use Rattle.kt_parser.proofs.Extents.{between_is}
-use Rattle.kt_parser.proofs.NameRows.{has_no_type}
-use Rattle.kt_parser.proofs.Progress.{goes_on}
-use Rattle.kt_parser.proofs.Steps.{standing, has_both, read_one, read_both, read_row, read_first, read_second, read_nothing}
-use Rattle.kt_parser.proofs.TypeRows.{stretch, first_taken, has_op, has_name, has_type}
+use Rattle.kt_grammar.specs.declared.cursor.Cursor.{Cursor}
+use Rattle.kt_grammar.specs.Built as built
+use Rattle.kt_grammar.specs.Built.{across}
+use Rattle.kt_grammar.specs.Moves.{Moved}
+use Rattle.kt_grammar.specs.Parsed.{Advanced, Advances}
+use Rattle.kt_grammar.specs.Rows as rows
+use Rattle.kt_grammar.specs.Rows.{Row, grammar, op}
+use Rattle.kt_grammar.specs.Tokens.{is_op, is_local}
+use Rattle.kt_grammar.specs.TypesBuilt as types_built
+use Rattle.kt_grammar.proofs.Advances.{halts_left, halts_right, halts_second, halts_after}
+use Rattle.kt_grammar.proofs.Extents.{between_is}
+use Rattle.kt_grammar.proofs.NameRows.{has_no_type}
+use Rattle.kt_grammar.proofs.Progress.{goes_on}
+use Rattle.kt_grammar.proofs.Steps.{standing, has_both, read_one, read_both, read_row, read_first, read_second, read_nothing}
+use Rattle.kt_grammar.proofs.TypeRows.{stretch, first_taken, has_op, has_name, has_type}
 
 -- ---- parts have derivations
 

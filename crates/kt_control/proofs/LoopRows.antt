@@ -18,25 +18,25 @@ use Rattle.kt_control.specs.Loops.{bare_inside, bare_of, bare, in_round_of, vari
 use Rattle.kt_control.specs.Places.{place_of}
 use Rattle.kt_control.proofs.ConditionalRows.{has_bracketed}
 use Rattle.kt_control.proofs.LocalRows.{has_typed_name}
-use Rattle.kt_parser.proofs.OperatorRows.{has_expression}
+use Rattle.kt_grammar.proofs.OperatorRows.{has_expression}
 use Rattle.kt_control.proofs.TokenMoves.{has_word}
 use Rattle.kt_lexer.specs.declared.token.Token.{Token}
 use Rattle.kt_lexer.specs.declared.token.Keyword.TheVariants as keyword
 use Rattle.kt_lexer.specs.declared.token.Operator.TheVariants as operator
-use Rattle.kt_parser.specs.declared.cursor.Cursor.{Cursor}
-use Rattle.kt_parser.specs.Built as built
-use Rattle.kt_parser.specs.Moves.{Moved}
-use Rattle.kt_parser.specs.Parsed.{Read, Advanced, Advances}
-use Rattle.kt_parser.specs.Rows as rows
-use Rattle.kt_parser.specs.Rows.{Row, grammar, op, in_brackets}
-use Rattle.kt_parser.specs.Tokens.{is_op, is_word}
-use Rattle.kt_parser.specs.TypesBuilt.{between, first_of, last_of}
-use Rattle.kt_parser.proofs.Advances.{halts_row, halts_left, halts_right, halts_second}
-use Rattle.kt_parser.proofs.Extents.{placed}
-use Rattle.kt_parser.proofs.NameRows.{has_bare_end}
-use Rattle.kt_parser.proofs.Progress.{goes_on}
-use Rattle.kt_parser.proofs.Steps.{has_both, read_one, read_both, read_row, read_first, read_second}
-use Rattle.kt_parser.proofs.TypeRows.{stretch, has_op, has_name}
+use Rattle.kt_grammar.specs.declared.cursor.Cursor.{Cursor}
+use Rattle.kt_grammar.specs.Built as built
+use Rattle.kt_grammar.specs.Moves.{Moved}
+use Rattle.kt_grammar.specs.Parsed.{Read, Advanced, Advances}
+use Rattle.kt_grammar.specs.Rows as rows
+use Rattle.kt_grammar.specs.Rows.{Row, grammar, op, in_brackets}
+use Rattle.kt_grammar.specs.Tokens.{is_op, is_word}
+use Rattle.kt_grammar.specs.TypesBuilt.{between, first_of, last_of}
+use Rattle.kt_grammar.proofs.Advances.{halts_row, halts_left, halts_right, halts_second}
+use Rattle.kt_grammar.proofs.Extents.{placed}
+use Rattle.kt_grammar.proofs.NameRows.{has_bare_end}
+use Rattle.kt_grammar.proofs.Progress.{goes_on}
+use Rattle.kt_grammar.proofs.Steps.{has_both, read_one, read_both, read_row, read_first, read_second}
+use Rattle.kt_grammar.proofs.TypeRows.{stretch, has_op, has_name}
 
 -- ---- parts have derivations
 

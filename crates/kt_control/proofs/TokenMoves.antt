@@ -6,17 +6,17 @@ use Rattle.kc_tree.specs.declared.types.Word.{Word}
 use Rattle.kt_control.specs.Labels.{LabelAt}
 use Rattle.kt_lexer.specs.declared.token.Token.{Token}
 use Rattle.kt_lexer.specs.declared.token.Keyword.{Keyword}
-use Rattle.kt_parser.specs.declared.cursor.Cursor.{Cursor}
-use Rattle.kt_parser.specs.Built as built
-use Rattle.kt_parser.specs.Moves.{Moved}
-use Rattle.kt_parser.specs.Parsed.{Advanced}
-use Rattle.kt_parser.specs.Rows as rows
-use Rattle.kt_parser.specs.Rows.{Row, grammar, word, maybe}
-use Rattle.kt_parser.specs.Tokens.{keyword_class}
-use Rattle.kt_parser.specs.TypesBuilt.{word_of}
-use Rattle.kt_parser.proofs.Advances.{moves}
-use Rattle.kt_parser.proofs.SingleTokens.{a_name, word_token}
-use Rattle.kt_parser.proofs.Steps.{takes_one, standing, read_one, read_first, read_second, read_nothing}
+use Rattle.kt_grammar.specs.declared.cursor.Cursor.{Cursor}
+use Rattle.kt_grammar.specs.Built as built
+use Rattle.kt_grammar.specs.Moves.{Moved}
+use Rattle.kt_grammar.specs.Parsed.{Advanced}
+use Rattle.kt_grammar.specs.Rows as rows
+use Rattle.kt_grammar.specs.Rows.{Row, grammar, word, maybe}
+use Rattle.kt_grammar.specs.Tokens.{keyword_class}
+use Rattle.kt_grammar.specs.TypesBuilt.{word_of}
+use Rattle.kt_grammar.proofs.Advances.{moves}
+use Rattle.kt_grammar.proofs.SingleTokens.{a_name, word_token}
+use Rattle.kt_grammar.proofs.Steps.{takes_one, standing, read_one, read_first, read_second, read_nothing}
 
 -- ---- one token forward
 

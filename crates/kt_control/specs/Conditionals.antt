@@ -8,13 +8,13 @@ use Rattle.kt_control.specs.declared.conditionals.Arms.{Arms}
 use Rattle.kt_lexer.specs.declared.token.Token.{Token}
 use Rattle.kt_lexer.specs.declared.token.Keyword.TheVariants as keyword
 use Rattle.kt_lexer.specs.declared.token.Operator.TheVariants as operator
-use Rattle.kt_parser.specs.declared.cursor.Cursor.{Cursor}
-use Rattle.kt_parser.specs.Built as built
-use Rattle.kt_parser.specs.Lookahead as tests
-use Rattle.kt_parser.specs.Parsed.{Read}
-use Rattle.kt_parser.specs.Rows as rows
-use Rattle.kt_parser.specs.Rows.{Row, grammar, op, word, maybe}
-use Rattle.kt_parser.specs.Tokens.{is_op}
+use Rattle.kt_grammar.specs.declared.cursor.Cursor.{Cursor}
+use Rattle.kt_grammar.specs.Built as built
+use Rattle.kt_grammar.specs.Lookahead as tests
+use Rattle.kt_grammar.specs.Parsed.{Read}
+use Rattle.kt_grammar.specs.Rows as rows
+use Rattle.kt_grammar.specs.Rows.{Row, grammar, op, word, maybe}
+use Rattle.kt_grammar.specs.Tokens.{is_op}
 
 abbrev pub bracketed_of : Cst Token → Expr
 bracketed_of (pair o (pair x c)) = built.expression_of x

@@ -9,11 +9,11 @@ use Rattle.kc_tree.specs.declared.expr.ExprKind.TheVariants as e
 use Rattle.kt_control.specs.Labels.{label_use}
 use Rattle.kt_lexer.specs.declared.token.Token.{Token}
 use Rattle.kt_lexer.specs.declared.token.Keyword.TheVariants as keyword
-use Rattle.kt_parser.specs.Built as built
-use Rattle.kt_parser.specs.Built.{across}
-use Rattle.kt_parser.specs.Rows as rows
-use Rattle.kt_parser.specs.Rows.{Row, word, maybe}
-use Rattle.kt_parser.specs.Tokens.{is_word, is_break, unmarked, begins_expression}
+use Rattle.kt_grammar.specs.Built as built
+use Rattle.kt_grammar.specs.Built.{across}
+use Rattle.kt_grammar.specs.Rows as rows
+use Rattle.kt_grammar.specs.Rows.{Row, word, maybe}
+use Rattle.kt_grammar.specs.Tokens.{is_word, is_break, unmarked, begins_expression}
 
 -- an expression on the same line
 abbrev pub on_line : Part Row Token

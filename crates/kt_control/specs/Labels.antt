@@ -3,9 +3,9 @@ use Rattle.std.specs.Prelude.{◌≡◌, Bool, true, false, Option, Some, None}
 use Rattle.grammars.specs.Grammar.{Part, one, test}
 use Rattle.kc_tree.specs.declared.types.Word.{Word}
 use Rattle.kt_lexer.specs.declared.token.Token.{Token}
-use Rattle.kt_parser.specs.Rows.{Row, maybe}
-use Rattle.kt_parser.specs.Tokens.{is_label, is_label_use}
-use Rattle.kt_parser.specs.TypesBuilt.{word_of}
+use Rattle.kt_grammar.specs.Rows.{Row, maybe}
+use Rattle.kt_grammar.specs.Tokens.{is_label, is_label_use}
+use Rattle.kt_grammar.specs.TypesBuilt.{word_of}
 
 -- a label that the test holds of is at hand, or no such token
 abbrev pub LabelAt : (Token → Bool) → Option Token → Option Word → Type 0

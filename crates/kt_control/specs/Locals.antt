@@ -9,11 +9,11 @@ use Rattle.kc_tree.specs.declared.expr.LocalName.{LocalName}
 use Rattle.kt_control.specs.declared.locals.Declared.{Declared}
 use Rattle.kt_lexer.specs.declared.token.Token.{Token}
 use Rattle.kt_lexer.specs.declared.token.Operator.TheVariants as operator
-use Rattle.kt_parser.specs.Built as built
-use Rattle.kt_parser.specs.Rows as rows
-use Rattle.kt_parser.specs.Rows.{Row, op, maybe, in_brackets}
-use Rattle.kt_parser.specs.Tokens.{is_op, is_name}
-use Rattle.kt_parser.specs.TypesBuilt.{no_span, word_of, type_of, span_of}
+use Rattle.kt_grammar.specs.Built as built
+use Rattle.kt_grammar.specs.Rows as rows
+use Rattle.kt_grammar.specs.Rows.{Row, op, maybe, in_brackets}
+use Rattle.kt_grammar.specs.Tokens.{is_op, is_name}
+use Rattle.kt_grammar.specs.TypesBuilt.{no_span, word_of, type_of, span_of}
 
 abbrev pub value_of : Cst Token → Expr
 value_of (pair assign x) = built.expression_of x

@@ -11,11 +11,11 @@ use Rattle.kt_control.specs.Conditionals.{bracketed_of, body_of}
 use Rattle.kt_lexer.specs.declared.token.Token.{Token}
 use Rattle.kt_lexer.specs.declared.token.Keyword.TheVariants as keyword
 use Rattle.kt_lexer.specs.declared.token.Operator.TheVariants as operator
-use Rattle.kt_parser.specs.Built as built
-use Rattle.kt_parser.specs.Rows as rows
-use Rattle.kt_parser.specs.Rows.{Row, word, in_brackets}
-use Rattle.kt_parser.specs.Tokens.{is_op, is_word, is_name}
-use Rattle.kt_parser.specs.TypesBuilt.{no_span, word_of, between, last_of}
+use Rattle.kt_grammar.specs.Built as built
+use Rattle.kt_grammar.specs.Rows as rows
+use Rattle.kt_grammar.specs.Rows.{Row, word, in_brackets}
+use Rattle.kt_grammar.specs.Tokens.{is_op, is_word, is_name}
+use Rattle.kt_grammar.specs.TypesBuilt.{no_span, word_of, between, last_of}
 
 -- ---- the variables of a `for`
 

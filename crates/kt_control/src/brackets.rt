@@ -2,15 +2,15 @@
 ghost use Rattle.std.specs.Prelude.{◌≤◌, length};
 ghost use Rattle.grammars.specs.Grammar.{row};
 ghost use Rattle.kt_control.specs.Conditionals as spec;
-ghost use Rattle.kt_parser.specs.Expressions.{ReadsExpression};
-ghost use Rattle.kt_parser.specs.Parsed.{Advances};
-ghost use Rattle.kt_parser.specs.Rows as rows;
+ghost use Rattle.kt_grammar.specs.Expressions.{ReadsExpression};
+ghost use Rattle.kt_grammar.specs.Parsed.{Advances};
+ghost use Rattle.kt_grammar.specs.Rows as rows;
 
 use kc_text::Fail;
 use kc_tree::Expr;
 use kt_bodies::Bodies;
+use kt_grammar::{Cursor, expect_op_on};
 use kt_lexer::{Operator, Token};
-use kt_parser::{Cursor, expect_op_on};
 use sqlite_items::Boxed;
 use std::alloc::Global;
 

@@ -3,10 +3,10 @@ ghost use Rattle.std.specs.Prelude.{◌≤◌, length};
 ghost use Rattle.grammars.specs.Grammar.{row};
 ghost use Rattle.kt_bodies.specs.Statements.{ReadsStatement};
 ghost use Rattle.kt_control.specs.Conditionals as spec;
-ghost use Rattle.kt_parser.specs.Built as built;
-ghost use Rattle.kt_parser.specs.Expressions.{ReadsExpression};
-ghost use Rattle.kt_parser.specs.Parsed.{Advances};
-ghost use Rattle.kt_parser.specs.Rows as rows;
+ghost use Rattle.kt_grammar.specs.Built as built;
+ghost use Rattle.kt_grammar.specs.Expressions.{ReadsExpression};
+ghost use Rattle.kt_grammar.specs.Parsed.{Advances};
+ghost use Rattle.kt_grammar.specs.Rows as rows;
 
 use crate::brackets::boxed_bracketed;
 use crate::looks::look_for_else;
@@ -14,8 +14,8 @@ use crate::nodes::{across, conditional_node, last_place};
 use kc_text::Fail;
 use kc_tree::Expr;
 use kt_bodies::{Bodies, Terminal, as_body, expect_on};
+use kt_grammar::{Cursor, eat_op_on};
 use kt_lexer::{Keyword, Operator, Token};
-use kt_parser::{Cursor, eat_op_on};
 use sqlite_items::Boxed;
 use std::alloc::Global;
 

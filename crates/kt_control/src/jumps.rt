@@ -3,10 +3,10 @@ ghost use Rattle.std.specs.Prelude.{◌≤◌, length, drop};
 ghost use Rattle.grammars.specs.Grammar.{row, first};
 ghost use Rattle.kt_control.specs.Jumps as spec;
 ghost use Rattle.kt_control.specs.Places.{place_of};
-ghost use Rattle.kt_parser.specs.Built as built;
-ghost use Rattle.kt_parser.specs.Expressions.{ReadsExpression};
-ghost use Rattle.kt_parser.specs.Parsed.{Advances};
-ghost use Rattle.kt_parser.specs.Rows as rows;
+ghost use Rattle.kt_grammar.specs.Built as built;
+ghost use Rattle.kt_grammar.specs.Expressions.{ReadsExpression};
+ghost use Rattle.kt_grammar.specs.Parsed.{Advances};
+ghost use Rattle.kt_grammar.specs.Rows as rows;
 
 use crate::labels::label_use;
 use crate::nodes::{across, broken, returned, thrown};
@@ -14,8 +14,8 @@ use crate::words::{begins_on_line, expect_break, is_word_at};
 use kc_text::Fail;
 use kc_tree::{Expr, Word};
 use kt_bodies::{Bodies, Terminal, expect_on};
+use kt_grammar::{Cursor, span_between};
 use kt_lexer::{Keyword, Token};
-use kt_parser::{Cursor, span_between};
 use sqlite_items::Boxed;
 use std::alloc::Global;
 

@@ -2,13 +2,13 @@
 ghost use Rattle.std.specs.Prelude.{◌≡◌, ◌≤◌, length, drop};
 ghost use Rattle.grammars.specs.Grammar.{first};
 ghost use Rattle.kt_control.specs.Labels as spec;
-ghost use Rattle.kt_parser.specs.Built as built;
-ghost use Rattle.kt_parser.specs.Parsed.{Advanced};
-ghost use Rattle.kt_parser.specs.Tokens.{is_label, is_label_use};
+ghost use Rattle.kt_grammar.specs.Built as built;
+ghost use Rattle.kt_grammar.specs.Parsed.{Advanced};
+ghost use Rattle.kt_grammar.specs.Tokens.{is_label, is_label_use};
 
 use kc_tree::Word;
+use kt_grammar::Cursor;
 use kt_lexer::{Token, TokenKind};
-use kt_parser::Cursor;
 
 /// The label behind the word of a jump.
 fn label_use_at(tokens: &[Token], at: usize) -> Option<Word>

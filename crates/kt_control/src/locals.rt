@@ -2,20 +2,20 @@
 ghost use Rattle.std.specs.Prelude.{◌≡◌, ◌≤◌, ◌++◌, IfOk, length};
 ghost use Rattle.grammars.specs.Grammar.{row};
 ghost use Rattle.kt_control.specs.Locals as spec;
-ghost use Rattle.kt_parser.specs.Built as built;
-ghost use Rattle.kt_parser.specs.Expressions.{ReadsExpression};
-ghost use Rattle.kt_parser.specs.Parsed.{Advances};
-ghost use Rattle.kt_parser.specs.Rows as rows;
+ghost use Rattle.kt_grammar.specs.Built as built;
+ghost use Rattle.kt_grammar.specs.Expressions.{ReadsExpression};
+ghost use Rattle.kt_grammar.specs.Parsed.{Advances};
+ghost use Rattle.kt_grammar.specs.Rows as rows;
 
 use crate::nodes::{across, local_node, span_of};
 use crate::words::expect_local;
 use kc_text::Fail;
 use kc_tree::{Expr, LocalName, Span, Type, Word};
 use kt_bodies::{Bodies, expect_name_on};
-use kt_lexer::{Operator, Token};
-use kt_parser::{
+use kt_grammar::{
     Cursor, behind, eat_op_on, expect_op_on, is_op_at, names, span_between, type_at, typed_name,
 };
+use kt_lexer::{Operator, Token};
 use sqlite_items::{Boxed, Items};
 use std::alloc::{AllocError, Global};
 

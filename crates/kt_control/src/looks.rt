@@ -2,10 +2,10 @@
 ghost use Rattle.std.specs.Prelude.{◌≤◌, length};
 ghost use Rattle.kt_bodies.specs.Looks.{Looked};
 ghost use Rattle.kt_control.specs.Conditionals as spec;
-ghost use Rattle.kt_parser.specs.Lookahead as tests;
+ghost use Rattle.kt_grammar.specs.Lookahead as tests;
 
+use kt_grammar::{Cursor, eat_op, eat_word, is_op_at};
 use kt_lexer::{Keyword, Operator, Token};
-use kt_parser::{Cursor, eat_op, eat_word, is_op_at};
 
 /// Whether `else` with no `->` behind it stands at the place, and the farthest place that is looked at.
 fn else_at(tokens: &[Token], at: usize) -> (bool, usize)

@@ -4,10 +4,10 @@ ghost use Rattle.grammars.specs.Grammar.{row, first};
 ghost use Rattle.kt_bodies.specs.Statements.{ReadsStatement};
 ghost use Rattle.kt_control.specs.Conditionals.{bracketed_of};
 ghost use Rattle.kt_control.specs.Loops as spec;
-ghost use Rattle.kt_parser.specs.Built as built;
-ghost use Rattle.kt_parser.specs.Expressions.{ReadsExpression};
-ghost use Rattle.kt_parser.specs.Parsed.{Advances};
-ghost use Rattle.kt_parser.specs.Rows as rows;
+ghost use Rattle.kt_grammar.specs.Built as built;
+ghost use Rattle.kt_grammar.specs.Expressions.{ReadsExpression};
+ghost use Rattle.kt_grammar.specs.Parsed.{Advances};
+ghost use Rattle.kt_grammar.specs.Rows as rows;
 
 use crate::brackets::boxed_bracketed;
 use crate::conditionals::body;
@@ -18,8 +18,8 @@ use crate::words::is_word_at;
 use kc_text::Fail;
 use kc_tree::{Expr, LocalName, Span, Word};
 use kt_bodies::{Bodies, Terminal, expect_name_on, expect_on};
+use kt_grammar::{Cursor, bare_names, behind, expect_op_on, is_op_at, span_between, typed_name};
 use kt_lexer::{Keyword, Operator, Token};
-use kt_parser::{Cursor, bare_names, behind, expect_op_on, is_op_at, span_between, typed_name};
 use sqlite_items::{Boxed, Items};
 use std::alloc::Global;
 

@@ -6,7 +6,7 @@ ghost use Rattle.kt_control.specs.Conditionals as conditionals;
 ghost use Rattle.kt_control.specs.Jumps as jumps;
 ghost use Rattle.kt_control.specs.Locals as locals;
 ghost use Rattle.kt_control.specs.Places as places;
-ghost use Rattle.kt_parser.specs.Built as built;
+ghost use Rattle.kt_grammar.specs.Built as built;
 
 use crate::conditionals::Arms;
 use crate::locals::Declared;

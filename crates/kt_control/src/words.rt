@@ -1,15 +1,15 @@
 //! Tests of single tokens.
 ghost use Rattle.std.specs.Prelude.{◌≡◌, ◌≤◌, not, length, drop};
 ghost use Rattle.grammars.specs.Grammar.{first, test};
-ghost use Rattle.kt_parser.specs.Beginnings.{of_kind};
-ghost use Rattle.kt_parser.specs.Moves.{ExpectsOn};
-ghost use Rattle.kt_parser.specs.Tokens as tokens_of;
-ghost use Rattle.kt_parser.specs.Tokens.{unmarked};
+ghost use Rattle.kt_grammar.specs.Beginnings.{of_kind};
+ghost use Rattle.kt_grammar.specs.Moves.{ExpectsOn};
+ghost use Rattle.kt_grammar.specs.Tokens as tokens_of;
+ghost use Rattle.kt_grammar.specs.Tokens.{unmarked};
 
 use kc_text::Fail;
 use kt_bodies::begins_local;
+use kt_grammar::{Cursor, begins_expression, is_at, keyword_class};
 use kt_lexer::{Keyword, Token, TokenKind};
-use kt_parser::{Cursor, begins_expression, is_at, keyword_class};
 
 /// Whether the keyword stands at the place.
 pub fn is_word_at(tokens: &[Token], at: usize, keyword: Keyword) -> bool

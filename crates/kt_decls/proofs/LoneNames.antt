@@ -10,23 +10,23 @@ use Rattle.kc_tree.specs.declared.expr.ExprKind.TheVariants as e
 use Rattle.kc_tree.specs.declared.types.Word.{Word}
 use Rattle.kt_lexer.specs.declared.token.Token.{Token}
 use Rattle.kt_lexer.specs.declared.token.Operator.TheVariants as operator
-use Rattle.kt_parser.specs.declared.cursor.Cursor.{Cursor}
-use Rattle.kt_parser.specs.Built as built
-use Rattle.kt_parser.specs.declared.lookahead.Frame.TheVariants as frame
-use Rattle.kt_parser.specs.declared.lookahead.Goal.TheVariants as goal
-use Rattle.kt_parser.specs.declared.lookahead.Mode.TheVariants as mode
-use Rattle.kt_parser.specs.declared.lookahead.Place.{Place}
-use Rattle.kt_parser.specs.Lookahead as tests
-use Rattle.kt_parser.specs.Lookahead.{suffix_follows, parameters}
-use Rattle.kt_parser.specs.Parsed.{Read, Advanced, Halts, NameTaken}
-use Rattle.kt_parser.specs.Rows as rows
-use Rattle.kt_parser.specs.Rows.{Row, grammar, op}
-use Rattle.kt_parser.specs.Tokens.{class_of, is_op, is_name, is_one_of}
-use Rattle.kt_parser.proofs.Advances.{level_from, level_halts, halts_row, halts_first, halts_right, not_one}
-use Rattle.kt_parser.proofs.OperandRows.{held}
-use Rattle.kt_parser.proofs.SingleTokens.{op_token, is_itself}
-use Rattle.kt_parser.proofs.Steps.{near, standing, has_both, read_one, read_row, read_first, read_second, read_nothing, read_done}
-use Rattle.kt_parser.proofs.TypeRows.{has_op}
+use Rattle.kt_grammar.specs.declared.cursor.Cursor.{Cursor}
+use Rattle.kt_grammar.specs.Built as built
+use Rattle.kt_grammar.specs.declared.lookahead.Frame.TheVariants as frame
+use Rattle.kt_grammar.specs.declared.lookahead.Goal.TheVariants as goal
+use Rattle.kt_grammar.specs.declared.lookahead.Mode.TheVariants as mode
+use Rattle.kt_grammar.specs.declared.lookahead.Place.{Place}
+use Rattle.kt_grammar.specs.Lookahead as tests
+use Rattle.kt_grammar.specs.Lookahead.{suffix_follows, parameters}
+use Rattle.kt_grammar.specs.Parsed.{Read, Advanced, Halts, NameTaken}
+use Rattle.kt_grammar.specs.Rows as rows
+use Rattle.kt_grammar.specs.Rows.{Row, grammar, op}
+use Rattle.kt_grammar.specs.Tokens.{class_of, is_op, is_name, is_one_of}
+use Rattle.kt_grammar.proofs.Advances.{level_from, level_halts, halts_row, halts_first, halts_right, not_one}
+use Rattle.kt_grammar.proofs.OperandRows.{held}
+use Rattle.kt_grammar.proofs.SingleTokens.{op_token, is_itself}
+use Rattle.kt_grammar.proofs.Steps.{near, standing, has_both, read_one, read_row, read_first, read_second, read_nothing, read_done}
+use Rattle.kt_grammar.proofs.TypeRows.{has_op}
 
 -- a comma or the end: nothing goes on or begins with it
 pub data Closing : Option Token → Type 0 where

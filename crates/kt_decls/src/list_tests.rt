@@ -2,16 +2,16 @@
 ghost use Rattle.std.specs.Prelude.{◌≡◌, ◌≤◌, not, length, drop};
 ghost use Rattle.grammars.specs.Grammar.{row, first, test};
 ghost use Rattle.kt_lexer.specs.declared.token.Operator.TheVariants as operators;
-ghost use Rattle.kt_parser.specs.Built as built;
-ghost use Rattle.kt_parser.specs.Parsed.{Advances};
-ghost use Rattle.kt_parser.specs.Rows as rows;
-ghost use Rattle.kt_parser.specs.Tokens.{is_op};
+ghost use Rattle.kt_grammar.specs.Built as built;
+ghost use Rattle.kt_grammar.specs.Parsed.{Advances};
+ghost use Rattle.kt_grammar.specs.Rows as rows;
+ghost use Rattle.kt_grammar.specs.Tokens.{is_op};
 
 use crate::type_tests::cut;
 use kc_text::Fail;
 use kc_tree::{Arg, Expr, ExprKind};
+use kt_grammar::*;
 use kt_lexer::{Operator, Token};
-use kt_parser::*;
 use sqlite_items::Items;
 use std::alloc::Global;
 use std::process::Abort;

@@ -1,16 +1,16 @@
 //! Operators in small texts, over a function that reads names alone.
 ghost use Rattle.std.specs.Prelude.{◌≡◌, ◌≤◌, ◌==◌, ◌&&◌, not, length};
 ghost use Rattle.grammars.specs.Grammar.{row};
-ghost use Rattle.kt_parser.specs.Built as built;
-ghost use Rattle.kt_parser.specs.Parsed.{Advances};
-ghost use Rattle.kt_parser.specs.Rows as rows;
+ghost use Rattle.kt_grammar.specs.Built as built;
+ghost use Rattle.kt_grammar.specs.Parsed.{Advances};
+ghost use Rattle.kt_grammar.specs.Rows as rows;
 
 use crate::list_tests::goes_on;
 use crate::type_tests::cut;
 use kc_text::Fail;
 use kc_tree::{Expr, ExprKind};
+use kt_grammar::*;
 use kt_lexer::Token;
-use kt_parser::*;
 use std::alloc::Global;
 use std::process::Abort;
 use std::test::Fail as Failed;

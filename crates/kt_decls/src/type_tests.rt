@@ -1,8 +1,8 @@
 //! Types of small texts: the place behind each, or the place at which it is refused.
 use kc_text::{Fail, Names, Text};
 use kc_tree::{Expr, ExprKind, Type};
+use kt_grammar::*;
 use kt_lexer::{Token, tokens};
-use kt_parser::*;
 use sqlite_items::Items;
 use std::alloc::Global;
 use std::process::Abort;

@@ -17,17 +17,17 @@ use Rattle.kt_functions.proofs.ParameterRows.{has_bracketed}
 use Rattle.kt_functions.proofs.ValueRows.{has_written_body}
 use Rattle.kt_lexer.specs.declared.token.Token.{Token}
 use Rattle.kt_lexer.specs.declared.token.Keyword.TheVariants as keyword
-use Rattle.kt_parser.specs.declared.cursor.Cursor.{Cursor}
-use Rattle.kt_parser.specs.Built.{written_type}
-use Rattle.kt_parser.specs.DeclarationsBuilt as built
-use Rattle.kt_parser.specs.Moves.{Moved}
-use Rattle.kt_parser.specs.Parsed.{Advanced}
-use Rattle.kt_parser.specs.Rows as rows
-use Rattle.kt_parser.specs.Rows.{Row, Site, grammar}
-use Rattle.kt_parser.specs.Tokens.{is_word}
-use Rattle.kt_parser.proofs.NameRows.{has_no_type}
-use Rattle.kt_parser.proofs.SingleTokens.{a_name}
-use Rattle.kt_parser.proofs.Steps.{has_both, read_one, read_both, read_row}
+use Rattle.kt_grammar.specs.declared.cursor.Cursor.{Cursor}
+use Rattle.kt_grammar.specs.Built.{written_type}
+use Rattle.kt_grammar.specs.DeclarationsBuilt as built
+use Rattle.kt_grammar.specs.Moves.{Moved}
+use Rattle.kt_grammar.specs.Parsed.{Advanced}
+use Rattle.kt_grammar.specs.Rows as rows
+use Rattle.kt_grammar.specs.Rows.{Row, Site, grammar}
+use Rattle.kt_grammar.specs.Tokens.{is_word}
+use Rattle.kt_grammar.proofs.NameRows.{has_no_type}
+use Rattle.kt_grammar.proofs.SingleTokens.{a_name}
+use Rattle.kt_grammar.proofs.Steps.{has_both, read_one, read_both, read_row}
 
 -- ---- parts have derivations
 

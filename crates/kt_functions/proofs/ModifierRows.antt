@@ -10,15 +10,15 @@ use Rattle.kt_bodies.proofs.Looking.{Says, looked_turn, looked_stop, halts_looke
 use Rattle.kt_functions.specs.Modifiers.{goes_on, ModifierAt, ModifierMoved, modifier_of}
 use Rattle.kt_lexer.specs.declared.token.Token.{Token}
 use Rattle.kt_lexer.specs.declared.token.Keyword.TheVariants as keyword
-use Rattle.kt_parser.specs.declared.cursor.Cursor.{Cursor}
-use Rattle.kt_parser.specs.DeclarationsBuilt as built
-use Rattle.kt_parser.specs.Lookahead as tests
-use Rattle.kt_parser.specs.Lookahead.{modifier_step, no_modifier, modifier_follows}
-use Rattle.kt_parser.specs.Parsed.{Advanced, Advances, Taken}
-use Rattle.kt_parser.specs.Rows.{grammar, modifiers}
-use Rattle.kt_parser.specs.Tokens.{is_word, is_modifier, is_modifier_name}
-use Rattle.kt_parser.proofs.SingleTokens.{word_token}
-use Rattle.kt_parser.proofs.Steps.{BegunAt, takes_one, read_one}
+use Rattle.kt_grammar.specs.declared.cursor.Cursor.{Cursor}
+use Rattle.kt_grammar.specs.DeclarationsBuilt as built
+use Rattle.kt_grammar.specs.Lookahead as tests
+use Rattle.kt_grammar.specs.Lookahead.{modifier_step, no_modifier, modifier_follows}
+use Rattle.kt_grammar.specs.Parsed.{Advanced, Advances, Taken}
+use Rattle.kt_grammar.specs.Rows.{grammar, modifiers}
+use Rattle.kt_grammar.specs.Tokens.{is_word, is_modifier, is_modifier_name}
+use Rattle.kt_grammar.proofs.SingleTokens.{word_token}
+use Rattle.kt_grammar.proofs.Steps.{BegunAt, takes_one, read_one}
 
 -- ---- what the test says
 

@@ -14,19 +14,19 @@ use Rattle.kt_functions.specs.Parameters.{typed_value, typed_value_of, typed, ty
 use Rattle.kt_functions.proofs.ValueRows.{has_default}
 use Rattle.kt_lexer.specs.declared.token.Token.{Token}
 use Rattle.kt_lexer.specs.declared.token.Operator.TheVariants as operator
-use Rattle.kt_parser.specs.declared.cursor.Cursor.{Cursor}
-use Rattle.kt_parser.specs.DeclarationsBuilt as built
-use Rattle.kt_parser.specs.Moves.{Moved}
-use Rattle.kt_parser.specs.Parsed.{Advanced}
-use Rattle.kt_parser.specs.Rows as rows
-use Rattle.kt_parser.specs.Rows.{Row, grammar, op}
-use Rattle.kt_parser.specs.Tokens.{is_op, begins_parameter}
-use Rattle.kt_parser.specs.TypesBuilt.{span_of, type_of}
-use Rattle.kt_parser.proofs.Extents.{between_is}
-use Rattle.kt_parser.proofs.ListRows.{IsList}
-use Rattle.kt_parser.proofs.Progress.{goes_on}
-use Rattle.kt_parser.proofs.Steps.{has_both, read_one, read_both, read_row}
-use Rattle.kt_parser.proofs.TypeRows.{stretch, has_op, has_name, has_type}
+use Rattle.kt_grammar.specs.declared.cursor.Cursor.{Cursor}
+use Rattle.kt_grammar.specs.DeclarationsBuilt as built
+use Rattle.kt_grammar.specs.Moves.{Moved}
+use Rattle.kt_grammar.specs.Parsed.{Advanced}
+use Rattle.kt_grammar.specs.Rows as rows
+use Rattle.kt_grammar.specs.Rows.{Row, grammar, op}
+use Rattle.kt_grammar.specs.Tokens.{is_op, begins_parameter}
+use Rattle.kt_grammar.specs.TypesBuilt.{span_of, type_of}
+use Rattle.kt_grammar.proofs.Extents.{between_is}
+use Rattle.kt_grammar.proofs.ListRows.{IsList}
+use Rattle.kt_grammar.proofs.Progress.{goes_on}
+use Rattle.kt_grammar.proofs.Steps.{has_both, read_one, read_both, read_row}
+use Rattle.kt_grammar.proofs.TypeRows.{stretch, has_op, has_name, has_type}
 
 -- ---- parts have derivations
 

@@ -15,21 +15,21 @@ use Rattle.kt_functions.specs.Sites.{site_of}
 use Rattle.kt_functions.specs.Receivers as spec
 use Rattle.kt_lexer.specs.declared.token.Token.{Token}
 use Rattle.kt_lexer.specs.declared.token.Operator.TheVariants as operator
-use Rattle.kt_parser.specs.declared.cursor.Cursor.{Cursor}
-use Rattle.kt_parser.specs.DeclarationsBuilt as built
-use Rattle.kt_parser.specs.Moves.{Moved}
-use Rattle.kt_parser.specs.Parsed.{Parsed, Advanced, Advances}
-use Rattle.kt_parser.specs.Rows as rows
-use Rattle.kt_parser.specs.Rows.{Row, grammar, op, question_marks}
-use Rattle.kt_parser.specs.Signs.{TokenTaken}
-use Rattle.kt_parser.specs.Tokens.{is_op, is_name, is_dot}
-use Rattle.kt_parser.specs.TypesBuilt.{between, nullables, type_arguments_of, type_of}
-use Rattle.kt_parser.proofs.Advances.{halts_row, halts_left, halts_right, halts_second, halts_after}
-use Rattle.kt_parser.proofs.Extents.{placed}
-use Rattle.kt_parser.proofs.Progress.{goes_on}
-use Rattle.kt_parser.proofs.SingleTokens.{op_token}
-use Rattle.kt_parser.proofs.Steps.{has_both, read_one, read_both, read_row, read_first, read_second, read_nothing}
-use Rattle.kt_parser.proofs.TypeRows.{stretch, first_taken, named_alike, has_op, has_name, has_marks, has_type}
+use Rattle.kt_grammar.specs.declared.cursor.Cursor.{Cursor}
+use Rattle.kt_grammar.specs.DeclarationsBuilt as built
+use Rattle.kt_grammar.specs.Moves.{Moved}
+use Rattle.kt_grammar.specs.Parsed.{Parsed, Advanced, Advances}
+use Rattle.kt_grammar.specs.Rows as rows
+use Rattle.kt_grammar.specs.Rows.{Row, grammar, op, question_marks}
+use Rattle.kt_grammar.specs.Signs.{TokenTaken}
+use Rattle.kt_grammar.specs.Tokens.{is_op, is_name, is_dot}
+use Rattle.kt_grammar.specs.TypesBuilt.{between, nullables, type_arguments_of, type_of}
+use Rattle.kt_grammar.proofs.Advances.{halts_row, halts_left, halts_right, halts_second, halts_after}
+use Rattle.kt_grammar.proofs.Extents.{placed}
+use Rattle.kt_grammar.proofs.Progress.{goes_on}
+use Rattle.kt_grammar.proofs.SingleTokens.{op_token}
+use Rattle.kt_grammar.proofs.Steps.{has_both, read_one, read_both, read_row, read_first, read_second, read_nothing}
+use Rattle.kt_grammar.proofs.TypeRows.{stretch, first_taken, named_alike, has_op, has_name, has_marks, has_type}
 
 -- ---- parts have derivations
 

@@ -13,21 +13,21 @@ use Rattle.kt_functions.specs.TypeParameters.{named, named_of, parts, parts_of, 
 use Rattle.kt_functions.proofs.ModifierRows.{has_modifiers}
 use Rattle.kt_lexer.specs.declared.token.Token.{Token}
 use Rattle.kt_lexer.specs.declared.token.Operator.TheVariants as operator
-use Rattle.kt_parser.specs.declared.cursor.Cursor.{Cursor}
-use Rattle.kt_parser.specs.Built.{written_type}
-use Rattle.kt_parser.specs.DeclarationsBuilt as built
-use Rattle.kt_parser.specs.Moves.{Moved}
-use Rattle.kt_parser.specs.Parsed.{Advanced, Advances, Halts}
-use Rattle.kt_parser.specs.Rows as rows
-use Rattle.kt_parser.specs.Rows.{Row, grammar, op}
-use Rattle.kt_parser.specs.Tokens.{is_op, begins_parameter}
-use Rattle.kt_parser.specs.TypesBuilt.{span_of}
-use Rattle.kt_parser.proofs.Advances.{halts_row, halts_left, halts_first, halts_second, halts_after}
-use Rattle.kt_parser.proofs.Extents.{between_is}
-use Rattle.kt_parser.proofs.NameRows.{has_no_type}
-use Rattle.kt_parser.proofs.Progress.{goes_on}
-use Rattle.kt_parser.proofs.Steps.{standing, has_both, read_one, read_both, read_row, read_first, read_second, read_nothing}
-use Rattle.kt_parser.proofs.TypeRows.{stretch, has_op, has_name}
+use Rattle.kt_grammar.specs.declared.cursor.Cursor.{Cursor}
+use Rattle.kt_grammar.specs.Built.{written_type}
+use Rattle.kt_grammar.specs.DeclarationsBuilt as built
+use Rattle.kt_grammar.specs.Moves.{Moved}
+use Rattle.kt_grammar.specs.Parsed.{Advanced, Advances, Halts}
+use Rattle.kt_grammar.specs.Rows as rows
+use Rattle.kt_grammar.specs.Rows.{Row, grammar, op}
+use Rattle.kt_grammar.specs.Tokens.{is_op, begins_parameter}
+use Rattle.kt_grammar.specs.TypesBuilt.{span_of}
+use Rattle.kt_grammar.proofs.Advances.{halts_row, halts_left, halts_first, halts_second, halts_after}
+use Rattle.kt_grammar.proofs.Extents.{between_is}
+use Rattle.kt_grammar.proofs.NameRows.{has_no_type}
+use Rattle.kt_grammar.proofs.Progress.{goes_on}
+use Rattle.kt_grammar.proofs.Steps.{standing, has_both, read_one, read_both, read_row, read_first, read_second, read_nothing}
+use Rattle.kt_grammar.proofs.TypeRows.{stretch, has_op, has_name}
 
 -- ---- parts have derivations
 

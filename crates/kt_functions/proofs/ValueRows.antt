@@ -9,17 +9,17 @@ use Rattle.kt_bodies.proofs.TryRows.{has_block}
 use Rattle.kt_functions.specs.Values.{begins_body, block_body, value_body}
 use Rattle.kt_lexer.specs.declared.token.Token.{Token}
 use Rattle.kt_lexer.specs.declared.token.Operator.TheVariants as operator
-use Rattle.kt_parser.specs.declared.cursor.Cursor.{Cursor}
-use Rattle.kt_parser.specs.Built.{block_statements, expression_of}
-use Rattle.kt_parser.specs.DeclarationsBuilt as built
-use Rattle.kt_parser.specs.Moves.{Moved}
-use Rattle.kt_parser.specs.Parsed.{Advanced, Halts}
-use Rattle.kt_parser.specs.Rows as rows
-use Rattle.kt_parser.specs.Rows.{Row, grammar}
-use Rattle.kt_parser.specs.Tokens.{is_op}
-use Rattle.kt_parser.proofs.Advances.{halts_row, halts_left, halts_right}
-use Rattle.kt_parser.proofs.SingleTokens.{a_name}
-use Rattle.kt_parser.proofs.Steps.{standing, read_one, read_both, read_row, read_first, read_second, read_nothing}
+use Rattle.kt_grammar.specs.declared.cursor.Cursor.{Cursor}
+use Rattle.kt_grammar.specs.Built.{block_statements, expression_of}
+use Rattle.kt_grammar.specs.DeclarationsBuilt as built
+use Rattle.kt_grammar.specs.Moves.{Moved}
+use Rattle.kt_grammar.specs.Parsed.{Advanced, Halts}
+use Rattle.kt_grammar.specs.Rows as rows
+use Rattle.kt_grammar.specs.Rows.{Row, grammar}
+use Rattle.kt_grammar.specs.Tokens.{is_op}
+use Rattle.kt_grammar.proofs.Advances.{halts_row, halts_left, halts_right}
+use Rattle.kt_grammar.proofs.SingleTokens.{a_name}
+use Rattle.kt_grammar.proofs.Steps.{standing, read_one, read_both, read_row, read_first, read_second, read_nothing}
 
 -- ---- parts have derivations
 

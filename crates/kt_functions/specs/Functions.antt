@@ -9,10 +9,10 @@ use Rattle.kt_functions.specs.declared.functions.Named.{Named}
 use Rattle.kt_functions.specs.Parameters.{bracketed, bracketed_of}
 use Rattle.kt_functions.specs.Receivers.{name_of, no_name}
 use Rattle.kt_lexer.specs.declared.token.Token.{Token}
-use Rattle.kt_parser.specs.Built.{written_type}
-use Rattle.kt_parser.specs.DeclarationsBuilt as built
-use Rattle.kt_parser.specs.Rows as rows
-use Rattle.kt_parser.specs.Rows.{Row, Site}
+use Rattle.kt_grammar.specs.Built.{written_type}
+use Rattle.kt_grammar.specs.DeclarationsBuilt as built
+use Rattle.kt_grammar.specs.Rows as rows
+use Rattle.kt_grammar.specs.Rows.{Row, Site}
 
 -- the result type and the body
 abbrev pub ending : Bool → Part Row Token

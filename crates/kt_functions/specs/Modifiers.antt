@@ -4,10 +4,10 @@ use Rattle.grammars.specs.Grammar.{one, Cst, leaf, test}
 use Rattle.kc_text.specs.declared.errors.Fail.{Fail}
 use Rattle.kc_tree.specs.declared.types.Mod.{Mod}
 use Rattle.kt_lexer.specs.declared.token.Token.{Token}
-use Rattle.kt_parser.specs.declared.cursor.Cursor.{Cursor}
-use Rattle.kt_parser.specs.DeclarationsBuilt as built
-use Rattle.kt_parser.specs.Parsed.{Taken, Halts}
-use Rattle.kt_parser.specs.Tokens.{is_modifier, is_local, begins_parameter}
+use Rattle.kt_grammar.specs.declared.cursor.Cursor.{Cursor}
+use Rattle.kt_grammar.specs.DeclarationsBuilt as built
+use Rattle.kt_grammar.specs.Parsed.{Taken, Halts}
+use Rattle.kt_grammar.specs.Tokens.{is_modifier, is_local, begins_parameter}
 
 -- what stands behind a modifier: a further one, the parameter's name, `val` or `var`
 abbrev pub goes_on : Token → Bool

@@ -8,11 +8,11 @@ use Rattle.kt_functions.specs.declared.parameters.TypedName.{TypedName}
 use Rattle.kt_functions.specs.declared.parameters.ParamParts.{ParamParts}
 use Rattle.kt_lexer.specs.declared.token.Token.{Token}
 use Rattle.kt_lexer.specs.declared.token.Operator.TheVariants as operator
-use Rattle.kt_parser.specs.DeclarationsBuilt as built
-use Rattle.kt_parser.specs.Rows as rows
-use Rattle.kt_parser.specs.Rows.{Row, op, in_brackets}
-use Rattle.kt_parser.specs.Tokens.{is_name}
-use Rattle.kt_parser.specs.TypesBuilt.{no_type, type_of, word_of}
+use Rattle.kt_grammar.specs.DeclarationsBuilt as built
+use Rattle.kt_grammar.specs.Rows as rows
+use Rattle.kt_grammar.specs.Rows.{Row, op, in_brackets}
+use Rattle.kt_grammar.specs.Tokens.{is_name}
+use Rattle.kt_grammar.specs.TypesBuilt.{no_type, type_of, word_of}
 
 -- a type with a default value
 abbrev pub typed_value : Part Row Token

@@ -11,11 +11,11 @@ use Rattle.kt_lexer.specs.declared.token.Token.{Token}
 use Rattle.kt_lexer.specs.declared.token.TokenKind.{TokenKind}
 use Rattle.kt_lexer.specs.declared.token.TokenKind.TheVariants as kind
 use Rattle.kt_lexer.specs.declared.token.Operator.TheVariants as operator
-use Rattle.kt_parser.specs.DeclarationsBuilt as built
-use Rattle.kt_parser.specs.Rows as rows
-use Rattle.kt_parser.specs.Rows.{Row, op, maybe, in_brackets, question_marks}
-use Rattle.kt_parser.specs.Tokens.{is_op, is_name, is_dot}
-use Rattle.kt_parser.specs.TypesBuilt.{between, last_of, no_type, nullables, type_arguments_of, type_of, word_of}
+use Rattle.kt_grammar.specs.DeclarationsBuilt as built
+use Rattle.kt_grammar.specs.Rows as rows
+use Rattle.kt_grammar.specs.Rows.{Row, op, maybe, in_brackets, question_marks}
+use Rattle.kt_grammar.specs.Tokens.{is_op, is_name, is_dot}
+use Rattle.kt_grammar.specs.TypesBuilt.{between, last_of, no_type, nullables, type_arguments_of, type_of, word_of}
 
 abbrev pub is_top_level : Site → Bool
 is_top_level site.TopLevel = true

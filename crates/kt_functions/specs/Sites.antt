@@ -1,7 +1,7 @@
 -- Where functions and properties stand.
 use Rattle.kt_functions.specs.declared.sites.Site.{Site}
 use Rattle.kt_functions.specs.declared.sites.Site.TheVariants as site
-use Rattle.kt_parser.specs.Rows as rows
+use Rattle.kt_grammar.specs.Rows as rows
 
 -- the same place in the grammar
 abbrev pub site_of : Site → rows.Site

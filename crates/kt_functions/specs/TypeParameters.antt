@@ -7,12 +7,12 @@ use Rattle.kc_tree.specs.declared.types.TypeParam.{TypeParam}
 use Rattle.kt_functions.specs.declared.type_parameters.TypeParts.{TypeParts}
 use Rattle.kt_lexer.specs.declared.token.Token.{Token}
 use Rattle.kt_lexer.specs.declared.token.Operator.TheVariants as operator
-use Rattle.kt_parser.specs.Built.{written_type}
-use Rattle.kt_parser.specs.DeclarationsBuilt as built
-use Rattle.kt_parser.specs.Rows as rows
-use Rattle.kt_parser.specs.Rows.{Row, op}
-use Rattle.kt_parser.specs.Tokens.{is_name}
-use Rattle.kt_parser.specs.TypesBuilt.{word_of}
+use Rattle.kt_grammar.specs.Built.{written_type}
+use Rattle.kt_grammar.specs.DeclarationsBuilt as built
+use Rattle.kt_grammar.specs.Rows as rows
+use Rattle.kt_grammar.specs.Rows.{Row, op}
+use Rattle.kt_grammar.specs.Tokens.{is_name}
+use Rattle.kt_grammar.specs.TypesBuilt.{word_of}
 
 -- a name with its bound
 abbrev pub named : Part Row Token

@@ -5,8 +5,8 @@ use Rattle.kc_tree.specs.declared.decl.FunBody.{FunBody}
 use Rattle.kc_tree.specs.declared.decl.FunBody.TheVariants as fun_body
 use Rattle.kt_lexer.specs.declared.token.Token.{Token}
 use Rattle.kt_lexer.specs.declared.token.Operator.TheVariants as operator
-use Rattle.kt_parser.specs.Built.{block_statements, expression_of}
-use Rattle.kt_parser.specs.Tokens.{is_op}
+use Rattle.kt_grammar.specs.Built.{block_statements, expression_of}
+use Rattle.kt_grammar.specs.Tokens.{is_op}
 
 abbrev pub begins_body : Token → Bool
 begins_body t = is_op operator.OpenBrace t || is_op operator.Assign t

@@ -3,9 +3,9 @@ ghost use Rattle.std.specs.Prelude.{◌≡◌, ◌≤◌, length};
 ghost use Rattle.grammars.specs.Grammar.{row};
 ghost use Rattle.kt_functions.specs.Functions as parts;
 ghost use Rattle.kt_functions.specs.Sites as spec;
-ghost use Rattle.kt_parser.specs.DeclarationsBuilt as built;
-ghost use Rattle.kt_parser.specs.Parsed.{Advances};
-ghost use Rattle.kt_parser.specs.Rows as rows;
+ghost use Rattle.kt_grammar.specs.DeclarationsBuilt as built;
+ghost use Rattle.kt_grammar.specs.Parsed.{Advances};
+ghost use Rattle.kt_grammar.specs.Rows as rows;
 
 use crate::parameters::bracketed_parameters;
 use crate::receivers::{FunName, function_name};
@@ -15,8 +15,8 @@ use crate::values::written_body;
 use kc_text::Fail;
 use kc_tree::{Fun, FunBody, Param, Type, TypeParam};
 use kt_bodies::{Terminal, expect_on};
+use kt_grammar::{Cursor, behind, colon_type};
 use kt_lexer::{Keyword, Token};
-use kt_parser::{Cursor, behind, colon_type};
 use sqlite_items::Items;
 use std::alloc::Global;
 

@@ -4,18 +4,18 @@ ghost use Rattle.grammars.specs.Grammar.{first, one, test};
 ghost use Rattle.kt_bodies.specs.Looks.{Looked};
 ghost use Rattle.kt_functions.specs.Modifiers as spec;
 ghost use Rattle.kt_lexer.specs.declared.token.TokenKind.TheVariants as token_kinds;
-ghost use Rattle.kt_parser.specs.Beginnings.{of_kind};
-ghost use Rattle.kt_parser.specs.DeclarationsBuilt as built;
-ghost use Rattle.kt_parser.specs.Lookahead as tests;
-ghost use Rattle.kt_parser.specs.Parsed.{Advances, Eats};
-ghost use Rattle.kt_parser.specs.Rows as rows;
-ghost use Rattle.kt_parser.specs.Tokens as tokens_of;
+ghost use Rattle.kt_grammar.specs.Beginnings.{of_kind};
+ghost use Rattle.kt_grammar.specs.DeclarationsBuilt as built;
+ghost use Rattle.kt_grammar.specs.Lookahead as tests;
+ghost use Rattle.kt_grammar.specs.Parsed.{Advances, Eats};
+ghost use Rattle.kt_grammar.specs.Rows as rows;
+ghost use Rattle.kt_grammar.specs.Tokens as tokens_of;
 
 use kc_text::Fail;
 use kc_tree::{Mod, ModKind};
 use kt_bodies::begins_local;
+use kt_grammar::{Cursor, class, is_at, is_name_at, keyword_class};
 use kt_lexer::{Keyword, Token, TokenKind};
-use kt_parser::{Cursor, class, is_at, is_name_at, keyword_class};
 use sqlite_items::Items;
 use std::alloc::Global;
 

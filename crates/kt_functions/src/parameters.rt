@@ -2,17 +2,17 @@
 ghost use Rattle.std.specs.Prelude.{◌≡◌, ◌≤◌, ◌++◌, length};
 ghost use Rattle.grammars.specs.Grammar.{row};
 ghost use Rattle.kt_functions.specs.Parameters as spec;
-ghost use Rattle.kt_parser.specs.DeclarationsBuilt as built;
-ghost use Rattle.kt_parser.specs.Parsed.{Advances};
-ghost use Rattle.kt_parser.specs.Rows as rows;
+ghost use Rattle.kt_grammar.specs.DeclarationsBuilt as built;
+ghost use Rattle.kt_grammar.specs.Parsed.{Advances};
+ghost use Rattle.kt_grammar.specs.Rows as rows;
 
 use crate::modifier_words::{begins_parameter, modifiers};
 use crate::values::default_value;
 use kc_text::Fail;
 use kc_tree::{Expr, Mod, Param, Type, Word};
 use kt_bodies::expect_name_on;
+use kt_grammar::{Cursor, behind, eat_op_on, expect_op_on, span_between, type_at};
 use kt_lexer::{Operator, Token};
-use kt_parser::{Cursor, behind, eat_op_on, expect_op_on, span_between, type_at};
 use sqlite_items::Items;
 use std::alloc::Global;
 

@@ -5,23 +5,23 @@ ghost use Rattle.kc_tree.specs.declared.types.TypeKind.TheVariants as type_kinds
 ghost use Rattle.kt_functions.specs.Receivers as spec;
 ghost use Rattle.kt_functions.specs.Sites.{site_of};
 ghost use Rattle.kt_lexer.specs.declared.token.TokenKind.TheVariants as token_kinds;
-ghost use Rattle.kt_parser.specs.DeclarationsBuilt as built;
-ghost use Rattle.kt_parser.specs.Parsed.{Advances, Parses};
-ghost use Rattle.kt_parser.specs.Rows as rows;
-ghost use Rattle.kt_parser.specs.Signs.{TokenAt, EatsToken};
-ghost use Rattle.kt_parser.specs.Tokens.{is_name};
-ghost use Rattle.kt_parser.specs.Tokens as tokens_of;
-ghost use Rattle.kt_parser.specs.TypesBuilt.{nullables};
+ghost use Rattle.kt_grammar.specs.DeclarationsBuilt as built;
+ghost use Rattle.kt_grammar.specs.Parsed.{Advances, Parses};
+ghost use Rattle.kt_grammar.specs.Rows as rows;
+ghost use Rattle.kt_grammar.specs.Signs.{TokenAt, EatsToken};
+ghost use Rattle.kt_grammar.specs.Tokens.{is_name};
+ghost use Rattle.kt_grammar.specs.Tokens as tokens_of;
+ghost use Rattle.kt_grammar.specs.TypesBuilt.{nullables};
 
 use crate::sites::Site;
 use kc_text::Fail;
 use kc_tree::{Span, Type, TypeArg, TypeKind, Word};
 use kt_bodies::expect_name_on;
-use kt_lexer::{Operator, Token, TokenKind};
-use kt_parser::{
+use kt_grammar::{
     Cursor, behind, class, eat_op, expect_op_on, is_op_at, operator_class, span_between,
     type_arguments, type_at,
 };
+use kt_lexer::{Operator, Token, TokenKind};
 use sqlite_items::{Boxed, Items};
 use std::alloc::{AllocError, Global};
 

@@ -3,15 +3,15 @@
 ghost use Rattle.std.specs.Prelude.{◌≡◌, ◌≤◌, length, drop};
 ghost use Rattle.grammars.specs.Grammar.{first, row, test};
 ghost use Rattle.kt_functions.specs.Values as spec;
-ghost use Rattle.kt_parser.specs.DeclarationsBuilt as built;
-ghost use Rattle.kt_parser.specs.Parsed.{Advances};
-ghost use Rattle.kt_parser.specs.Rows as rows;
+ghost use Rattle.kt_grammar.specs.DeclarationsBuilt as built;
+ghost use Rattle.kt_grammar.specs.Parsed.{Advances};
+ghost use Rattle.kt_grammar.specs.Rows as rows;
 
 use kc_text::Fail;
 use kc_tree::{Expr, FunBody};
-use kt_expressions::{block_at, expression_at};
+use kt_grammar::{Cursor, eat_op_on, expect_op_on, is_op_at};
 use kt_lexer::{Operator, Token};
-use kt_parser::{Cursor, eat_op_on, expect_op_on, is_op_at};
+use kt_parser::{block_at, expression_at};
 use std::alloc::Global;
 
 /// The default value of a parameter, where `=` is written.

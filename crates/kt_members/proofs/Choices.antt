@@ -3,11 +3,11 @@ use Rattle.std.proofs.Common.{◌≡◌, ℕ, ◌≤◌, Bool, true, false, List
 use Rattle.grammars.specs.Grammar.{Part, next, row, choose, Cst, node, left, right, first, test, Reads}
 use Rattle.kc_text.specs.declared.errors.Fail.{Fail}
 use Rattle.kt_lexer.specs.declared.token.Token.{Token}
-use Rattle.kt_parser.specs.declared.cursor.Cursor.{Cursor}
-use Rattle.kt_parser.specs.Parsed.{Read, Halts, Advanced, Advances}
-use Rattle.kt_parser.specs.Rows.{Row, grammar}
-use Rattle.kt_parser.proofs.Advances.{halts_row, halts_left, halts_right}
-use Rattle.kt_parser.proofs.Steps.{read_row, read_first, read_second}
+use Rattle.kt_grammar.specs.declared.cursor.Cursor.{Cursor}
+use Rattle.kt_grammar.specs.Parsed.{Read, Halts, Advanced, Advances}
+use Rattle.kt_grammar.specs.Rows.{Row, grammar}
+use Rattle.kt_grammar.proofs.Advances.{halts_row, halts_left, halts_right}
+use Rattle.kt_grammar.proofs.Steps.{read_row, read_first, read_second}
 
 -- what a derivation of a part is built to, by two definitions
 abbrev pub BuiltAlike : {X : Type 0} → Part Row Token → (Cst Token → X) → (Cst Token → X) → Type 0

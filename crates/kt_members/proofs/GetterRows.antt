@@ -16,21 +16,21 @@ use Rattle.kt_members.specs.declared.member_words.MemberWord.TheVariants as word
 use Rattle.kt_members.specs.Getters as spec
 use Rattle.kt_members.proofs.SetterRows.{has_behind_value}
 use Rattle.kt_members.proofs.TokenRows.{has_member_word, has_value}
-use Rattle.kt_parser.specs.declared.cursor.Cursor.{Cursor}
-use Rattle.kt_parser.specs.Built as expressions
-use Rattle.kt_parser.specs.DeclarationsBuilt as built
-use Rattle.kt_parser.specs.Moves.{Moved}
-use Rattle.kt_parser.specs.Parsed.{Advanced, Halts, Advances}
-use Rattle.kt_parser.specs.Rows as rows
-use Rattle.kt_parser.specs.Rows.{Row, grammar, op, colon_type, value}
-use Rattle.kt_parser.specs.Tokens.{is_op, is_get}
-use Rattle.kt_parser.specs.TypesBuilt.{between, first_of, last_of}
-use Rattle.kt_parser.proofs.Advances.{halts_row, halts_left, halts_right, halts_second, halts_after}
-use Rattle.kt_parser.proofs.Extents.{placed}
-use Rattle.kt_parser.proofs.NameRows.{has_no_type}
-use Rattle.kt_parser.proofs.Progress.{goes_on}
-use Rattle.kt_parser.proofs.Steps.{has_both, standing, read_one, read_both, read_row, read_first, read_second}
-use Rattle.kt_parser.proofs.TypeRows.{stretch, has_op}
+use Rattle.kt_grammar.specs.declared.cursor.Cursor.{Cursor}
+use Rattle.kt_grammar.specs.Built as expressions
+use Rattle.kt_grammar.specs.DeclarationsBuilt as built
+use Rattle.kt_grammar.specs.Moves.{Moved}
+use Rattle.kt_grammar.specs.Parsed.{Advanced, Halts, Advances}
+use Rattle.kt_grammar.specs.Rows as rows
+use Rattle.kt_grammar.specs.Rows.{Row, grammar, op, colon_type, value}
+use Rattle.kt_grammar.specs.Tokens.{is_op, is_get}
+use Rattle.kt_grammar.specs.TypesBuilt.{between, first_of, last_of}
+use Rattle.kt_grammar.proofs.Advances.{halts_row, halts_left, halts_right, halts_second, halts_after}
+use Rattle.kt_grammar.proofs.Extents.{placed}
+use Rattle.kt_grammar.proofs.NameRows.{has_no_type}
+use Rattle.kt_grammar.proofs.Progress.{goes_on}
+use Rattle.kt_grammar.proofs.Steps.{has_both, standing, read_one, read_both, read_row, read_first, read_second}
+use Rattle.kt_grammar.proofs.TypeRows.{stretch, has_op}
 
 -- ---- parts have derivations
 

@@ -14,19 +14,19 @@ use Rattle.kt_lexer.specs.declared.token.Operator.TheVariants as operator
 use Rattle.kt_members.specs.Members.{begins_init, init_block, init_of, to_brace, before_brace, members_in}
 use Rattle.kt_members.proofs.Choices.{taken_left, taken_right, of_row}
 use Rattle.kt_members.proofs.PropertyRows.{has_behind_word}
-use Rattle.kt_parser.specs.declared.cursor.Cursor.{Cursor}
-use Rattle.kt_parser.specs.Built as expressions
-use Rattle.kt_parser.specs.DeclarationsBuilt as built
-use Rattle.kt_parser.specs.Moves.{Moved}
-use Rattle.kt_parser.specs.Parsed.{Advanced, Advances}
-use Rattle.kt_parser.specs.Rows as rows
-use Rattle.kt_parser.specs.Rows.{Row, grammar, op}
-use Rattle.kt_parser.specs.Tokens.{is_op, is_init, marked}
-use Rattle.kt_parser.specs.TypesBuilt.{no_span}
-use Rattle.kt_parser.proofs.Extents.{between_is}
-use Rattle.kt_parser.proofs.Progress.{goes_on}
-use Rattle.kt_parser.proofs.Steps.{has_both, read_one, read_both, read_row}
-use Rattle.kt_parser.proofs.TypeRows.{stretch, has_op}
+use Rattle.kt_grammar.specs.declared.cursor.Cursor.{Cursor}
+use Rattle.kt_grammar.specs.Built as expressions
+use Rattle.kt_grammar.specs.DeclarationsBuilt as built
+use Rattle.kt_grammar.specs.Moves.{Moved}
+use Rattle.kt_grammar.specs.Parsed.{Advanced, Advances}
+use Rattle.kt_grammar.specs.Rows as rows
+use Rattle.kt_grammar.specs.Rows.{Row, grammar, op}
+use Rattle.kt_grammar.specs.Tokens.{is_op, is_init, marked}
+use Rattle.kt_grammar.specs.TypesBuilt.{no_span}
+use Rattle.kt_grammar.proofs.Extents.{between_is}
+use Rattle.kt_grammar.proofs.Progress.{goes_on}
+use Rattle.kt_grammar.proofs.Steps.{has_both, read_one, read_both, read_row}
+use Rattle.kt_grammar.proofs.TypeRows.{stretch, has_op}
 
 -- ---- an `init` block
 

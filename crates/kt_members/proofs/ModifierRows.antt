@@ -16,17 +16,17 @@ use Rattle.kt_members.specs.declared.modified.Modified.{Modified}
 use Rattle.kt_members.specs.Members.{unmodified, unmodified_of, function_kind, property_kind, with_mods, modified_behind}
 use Rattle.kt_members.specs.Modifiers.{ModifierAt, ModifierMoved}
 use Rattle.kt_members.proofs.Choices.{taken_left, taken_right}
-use Rattle.kt_parser.specs.declared.cursor.Cursor.{Cursor}
-use Rattle.kt_parser.specs.DeclarationsBuilt as built
-use Rattle.kt_parser.specs.Parsed.{Advanced, Advances, Taken}
-use Rattle.kt_parser.specs.Rows as rows
-use Rattle.kt_parser.specs.Rows.{Row, grammar, is_plain_of_member}
-use Rattle.kt_parser.specs.Tokens.{class_of, is_modifier, is_abstract, is_word}
-use Rattle.kt_parser.proofs.Advances.{halts_row, halts_right, halts_left, halts_after}
-use Rattle.kt_parser.proofs.Extents.{between_is}
-use Rattle.kt_parser.proofs.Progress.{goes_on}
-use Rattle.kt_parser.proofs.Steps.{takes_one, read_one, read_both, read_row, read_first, read_second}
-use Rattle.kt_parser.proofs.TypeRows.{stretch}
+use Rattle.kt_grammar.specs.declared.cursor.Cursor.{Cursor}
+use Rattle.kt_grammar.specs.DeclarationsBuilt as built
+use Rattle.kt_grammar.specs.Parsed.{Advanced, Advances, Taken}
+use Rattle.kt_grammar.specs.Rows as rows
+use Rattle.kt_grammar.specs.Rows.{Row, grammar, is_plain_of_member}
+use Rattle.kt_grammar.specs.Tokens.{class_of, is_modifier, is_abstract, is_word}
+use Rattle.kt_grammar.proofs.Advances.{halts_row, halts_right, halts_left, halts_after}
+use Rattle.kt_grammar.proofs.Extents.{between_is}
+use Rattle.kt_grammar.proofs.Progress.{goes_on}
+use Rattle.kt_grammar.proofs.Steps.{takes_one, read_one, read_both, read_row, read_first, read_second}
+use Rattle.kt_grammar.proofs.TypeRows.{stretch}
 
 -- ---- single tokens
 

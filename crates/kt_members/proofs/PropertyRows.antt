@@ -16,18 +16,18 @@ use Rattle.kt_members.specs.Getters.{accessors_of}
 use Rattle.kt_members.specs.Properties as spec
 use Rattle.kt_members.proofs.Choices.{BuiltAlike, taken_left, taken_right, of_row}
 use Rattle.kt_members.proofs.TokenRows.{has_value}
-use Rattle.kt_parser.specs.declared.cursor.Cursor.{Cursor}
-use Rattle.kt_parser.specs.Built as expressions
-use Rattle.kt_parser.specs.DeclarationsBuilt as built
-use Rattle.kt_parser.specs.Moves.{Moved}
-use Rattle.kt_parser.specs.Parsed.{Advanced, Halts, Advances}
-use Rattle.kt_parser.specs.Rows as rows
-use Rattle.kt_parser.specs.Rows.{Row, grammar, op, value, colon_type}
-use Rattle.kt_parser.specs.Tokens.{is_op, is_word, is_get, is_name}
-use Rattle.kt_parser.proofs.Advances.{halts_second, halts_after}
-use Rattle.kt_parser.proofs.NameRows.{has_no_type}
-use Rattle.kt_parser.proofs.Steps.{has_both, read_one, read_both, read_second, read_nothing}
-use Rattle.kt_parser.proofs.TypeRows.{has_name}
+use Rattle.kt_grammar.specs.declared.cursor.Cursor.{Cursor}
+use Rattle.kt_grammar.specs.Built as expressions
+use Rattle.kt_grammar.specs.DeclarationsBuilt as built
+use Rattle.kt_grammar.specs.Moves.{Moved}
+use Rattle.kt_grammar.specs.Parsed.{Advanced, Halts, Advances}
+use Rattle.kt_grammar.specs.Rows as rows
+use Rattle.kt_grammar.specs.Rows.{Row, grammar, op, value, colon_type}
+use Rattle.kt_grammar.specs.Tokens.{is_op, is_word, is_get, is_name}
+use Rattle.kt_grammar.proofs.Advances.{halts_second, halts_after}
+use Rattle.kt_grammar.proofs.NameRows.{has_no_type}
+use Rattle.kt_grammar.proofs.Steps.{has_both, read_one, read_both, read_second, read_nothing}
+use Rattle.kt_grammar.proofs.TypeRows.{has_name}
 
 -- ---- parts have derivations
 

@@ -13,19 +13,19 @@ use Rattle.kt_lexer.specs.declared.token.Operator.TheVariants as operator
 use Rattle.kt_members.specs.Setters.{bracketed_name, name_in, setter_with}
 use Rattle.kt_members.proofs.Choices.{BuiltAlike, taken_left, built_alike}
 use Rattle.kt_members.proofs.TokenRows.{named, has_body}
-use Rattle.kt_parser.specs.declared.cursor.Cursor.{Cursor}
-use Rattle.kt_parser.specs.DeclarationsBuilt as built
-use Rattle.kt_parser.specs.Moves.{Moved}
-use Rattle.kt_parser.specs.Parsed.{Advanced, Halts, Advances}
-use Rattle.kt_parser.specs.Rows as rows
-use Rattle.kt_parser.specs.Rows.{Row, grammar, op}
-use Rattle.kt_parser.specs.Tokens.{is_op, is_set, is_name, marked}
-use Rattle.kt_parser.specs.TypesBuilt.{span_of}
-use Rattle.kt_parser.proofs.Advances.{halts_as, halts_row, halts_first, halts_second, halts_after, refused_guard, read_guard, not_guarded}
-use Rattle.kt_parser.proofs.Extents.{between_is}
-use Rattle.kt_parser.proofs.Progress.{goes_on}
-use Rattle.kt_parser.proofs.Steps.{has_both, read_one, read_both, read_row, read_second, read_nothing}
-use Rattle.kt_parser.proofs.TypeRows.{stretch, has_op, has_name}
+use Rattle.kt_grammar.specs.declared.cursor.Cursor.{Cursor}
+use Rattle.kt_grammar.specs.DeclarationsBuilt as built
+use Rattle.kt_grammar.specs.Moves.{Moved}
+use Rattle.kt_grammar.specs.Parsed.{Advanced, Halts, Advances}
+use Rattle.kt_grammar.specs.Rows as rows
+use Rattle.kt_grammar.specs.Rows.{Row, grammar, op}
+use Rattle.kt_grammar.specs.Tokens.{is_op, is_set, is_name, marked}
+use Rattle.kt_grammar.specs.TypesBuilt.{span_of}
+use Rattle.kt_grammar.proofs.Advances.{halts_as, halts_row, halts_first, halts_second, halts_after, refused_guard, read_guard, not_guarded}
+use Rattle.kt_grammar.proofs.Extents.{between_is}
+use Rattle.kt_grammar.proofs.Progress.{goes_on}
+use Rattle.kt_grammar.proofs.Steps.{has_both, read_one, read_both, read_row, read_second, read_nothing}
+use Rattle.kt_grammar.proofs.TypeRows.{stretch, has_op, has_name}
 
 -- ---- parts have derivations
 

@@ -8,12 +8,12 @@ use Rattle.kt_lexer.specs.declared.token.Operator.TheVariants as operator
 use Rattle.kt_members.specs.declared.member_words.MemberWord.{MemberWord}
 use Rattle.kt_members.specs.declared.member_words.MemberWord.TheVariants as word
 use Rattle.kt_members.specs.MemberWords.{is_member_word}
-use Rattle.kt_parser.specs.Rows as rows
-use Rattle.kt_parser.specs.Rows.{grammar, value}
-use Rattle.kt_parser.specs.TypesBuilt.{no_span}
-use Rattle.kt_parser.proofs.SingleTokens.{a_name}
-use Rattle.kt_parser.proofs.Steps.{has_both}
-use Rattle.kt_parser.proofs.TypeRows.{has_op}
+use Rattle.kt_grammar.specs.Rows as rows
+use Rattle.kt_grammar.specs.Rows.{grammar, value}
+use Rattle.kt_grammar.specs.TypesBuilt.{no_span}
+use Rattle.kt_grammar.proofs.SingleTokens.{a_name}
+use Rattle.kt_grammar.proofs.Steps.{has_both}
+use Rattle.kt_grammar.proofs.TypeRows.{has_op}
 
 -- a name behind a line's end
 abbrev pub named : ℕ → Token

@@ -8,12 +8,12 @@ use Rattle.kc_tree.specs.declared.types.«Type».{«Type»}
 use Rattle.kt_lexer.specs.declared.token.Token.{Token}
 use Rattle.kt_lexer.specs.declared.token.Operator.TheVariants as operator
 use Rattle.kt_members.specs.declared.getters.AccessorPair.{AccessorPair}
-use Rattle.kt_parser.specs.Built.{no_expression, written_type, expression_of, block_statements}
-use Rattle.kt_parser.specs.DeclarationsBuilt as built
-use Rattle.kt_parser.specs.Rows as rows
-use Rattle.kt_parser.specs.Rows.{Row, value}
-use Rattle.kt_parser.specs.Tokens.{is_op}
-use Rattle.kt_parser.specs.TypesBuilt.{between, last_of}
+use Rattle.kt_grammar.specs.Built.{no_expression, written_type, expression_of, block_statements}
+use Rattle.kt_grammar.specs.DeclarationsBuilt as built
+use Rattle.kt_grammar.specs.Rows as rows
+use Rattle.kt_grammar.specs.Rows.{Row, value}
+use Rattle.kt_grammar.specs.Tokens.{is_op}
+use Rattle.kt_grammar.specs.TypesBuilt.{between, last_of}
 
 -- the type that the head of a getter names
 abbrev pub type_in_head : Cst Token → Option «Type»

@@ -3,7 +3,7 @@ use Rattle.std.specs.Prelude.{ℕ, Bool}
 use Rattle.kt_lexer.specs.declared.token.Token.{Token}
 use Rattle.kt_members.specs.declared.member_words.MemberWord.{MemberWord}
 use Rattle.kt_members.specs.declared.member_words.MemberWord.TheVariants as word
-use Rattle.kt_parser.specs.Tokens.{is_of}
+use Rattle.kt_grammar.specs.Tokens.{is_of}
 
 abbrev pub word_class : MemberWord → ℕ
 word_class word.Get = 87

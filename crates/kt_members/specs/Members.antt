@@ -8,10 +8,10 @@ use Rattle.kc_tree.specs.declared.types.Mod.{Mod}
 use Rattle.kt_lexer.specs.declared.token.Token.{Token}
 use Rattle.kt_lexer.specs.declared.token.Keyword.TheVariants as keyword
 use Rattle.kt_members.specs.declared.modified.Modified.{Modified}
-use Rattle.kt_parser.specs.DeclarationsBuilt as built
-use Rattle.kt_parser.specs.Rows as rows
-use Rattle.kt_parser.specs.Rows.{Row, op}
-use Rattle.kt_parser.specs.Tokens.{is_modifier, is_init, is_word, is_local}
+use Rattle.kt_grammar.specs.DeclarationsBuilt as built
+use Rattle.kt_grammar.specs.Rows as rows
+use Rattle.kt_grammar.specs.Rows.{Row, op}
+use Rattle.kt_grammar.specs.Tokens.{is_modifier, is_init, is_word, is_local}
 use Rattle.kt_lexer.specs.declared.token.Operator.TheVariants as operator
 
 -- a function or a property, with its modifiers

@@ -3,10 +3,10 @@ use Rattle.std.specs.Prelude.{◌≡◌, true, false, List, drop, Option, Some, 
 use Rattle.grammars.specs.Grammar.{first, test}
 use Rattle.kc_tree.specs.declared.types.Mod.{Mod}
 use Rattle.kt_lexer.specs.declared.token.Token.{Token}
-use Rattle.kt_parser.specs.declared.cursor.Cursor.{Cursor}
-use Rattle.kt_parser.specs.DeclarationsBuilt as built
-use Rattle.kt_parser.specs.Parsed.{Taken}
-use Rattle.kt_parser.specs.Tokens.{is_modifier}
+use Rattle.kt_grammar.specs.declared.cursor.Cursor.{Cursor}
+use Rattle.kt_grammar.specs.DeclarationsBuilt as built
+use Rattle.kt_grammar.specs.Parsed.{Taken}
+use Rattle.kt_grammar.specs.Tokens.{is_modifier}
 
 -- the modifier that a token is
 abbrev pub ModifierAt : Option Token → Option Mod → Type 0

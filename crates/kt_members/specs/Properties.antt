@@ -7,7 +7,7 @@ use Rattle.kc_tree.specs.declared.types.«Type».{«Type»}
 use Rattle.kt_lexer.specs.declared.token.Token.{Token}
 use Rattle.kt_lexer.specs.declared.token.Operator.TheVariants as operator
 use Rattle.kt_members.specs.declared.getters.AccessorPair.{AccessorPair}
-use Rattle.kt_parser.specs.Tokens.{is_op, is_get}
+use Rattle.kt_grammar.specs.Tokens.{is_op, is_get}
 
 -- what may stand behind the type of a property in a class begins with it
 abbrev pub begins_value : Token → Bool

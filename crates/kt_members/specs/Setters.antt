@@ -6,9 +6,9 @@ use Rattle.kc_tree.specs.declared.decl.Setter.{Setter}
 use Rattle.kc_tree.specs.declared.fault.Span.{Span}
 use Rattle.kc_tree.specs.declared.types.Word.{Word}
 use Rattle.kt_lexer.specs.declared.token.Token.{Token}
-use Rattle.kt_parser.specs.DeclarationsBuilt as built
-use Rattle.kt_parser.specs.Rows.{Row, in_brackets}
-use Rattle.kt_parser.specs.Tokens.{is_name}
+use Rattle.kt_grammar.specs.DeclarationsBuilt as built
+use Rattle.kt_grammar.specs.Rows.{Row, in_brackets}
+use Rattle.kt_grammar.specs.Tokens.{is_name}
 
 -- the parameter of a setter
 abbrev pub bracketed_name : Part Row Token

@@ -4,10 +4,10 @@ ghost use Rattle.grammars.specs.Grammar.{row};
 ghost use Rattle.kt_bodies.specs.Statements.{Follows};
 ghost use Rattle.kt_members.specs.Members as spec;
 ghost use Rattle.kt_functions.specs.Sites.{site_of};
-ghost use Rattle.kt_parser.specs.DeclarationsBuilt as built;
-ghost use Rattle.kt_parser.specs.Parsed.{Advances};
-ghost use Rattle.kt_parser.specs.Rows as rows;
-ghost use Rattle.kt_parser.specs.Tokens.{marked};
+ghost use Rattle.kt_grammar.specs.DeclarationsBuilt as built;
+ghost use Rattle.kt_grammar.specs.Parsed.{Advances};
+ghost use Rattle.kt_grammar.specs.Rows as rows;
+ghost use Rattle.kt_grammar.specs.Tokens.{marked};
 
 use crate::member_words::{MemberWord, expect_word};
 use crate::modified::modified_member;
@@ -16,10 +16,10 @@ use crate::nodes::init_member;
 use kc_text::Fail;
 use kc_tree::Member;
 use kt_bodies::behind_semicolons;
-use kt_expressions::block_at;
 use kt_functions::Site;
+use kt_grammar::{Cursor, eat_op_on, expect_op_on, span_between};
 use kt_lexer::{Operator, Token};
-use kt_parser::{Cursor, eat_op_on, expect_op_on, span_between};
+use kt_parser::block_at;
 use sqlite_items::Items;
 use std::alloc::Global;
 

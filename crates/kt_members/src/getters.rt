@@ -2,17 +2,17 @@
 ghost use Rattle.std.specs.Prelude.{◌≤◌, length, drop, Some};
 ghost use Rattle.grammars.specs.Grammar.{row, first};
 ghost use Rattle.kt_members.specs.Getters as spec;
-ghost use Rattle.kt_parser.specs.DeclarationsBuilt as built;
-ghost use Rattle.kt_parser.specs.Parsed.{Advances};
-ghost use Rattle.kt_parser.specs.Rows as rows;
+ghost use Rattle.kt_grammar.specs.DeclarationsBuilt as built;
+ghost use Rattle.kt_grammar.specs.Parsed.{Advances};
+ghost use Rattle.kt_grammar.specs.Rows as rows;
 
 use crate::member_words::{MemberWord, expect_word};
 use crate::setters::{setter_behind_block, setter_behind_value};
 use kc_text::Fail;
 use kc_tree::{FunBody, Getter, Setter, Type};
-use kt_expressions::{block_at, expression_at};
+use kt_grammar::{Cursor, behind, colon_type, expect_op_on, is_op_at, span_between};
 use kt_lexer::{Operator, Token};
-use kt_parser::{Cursor, behind, colon_type, expect_op_on, is_op_at, span_between};
+use kt_parser::{block_at, expression_at};
 use std::alloc::Global;
 
 /// A getter and perhaps a setter.

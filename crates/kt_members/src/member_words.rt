@@ -2,13 +2,13 @@
 ghost use Rattle.std.specs.Prelude.{◌≡◌, ◌≤◌, length, drop};
 ghost use Rattle.grammars.specs.Grammar.{first, test};
 ghost use Rattle.kt_members.specs.MemberWords as spec;
-ghost use Rattle.kt_parser.specs.Moves.{EatsOn, ExpectsOn};
-ghost use Rattle.kt_parser.specs.Tokens.{marked};
+ghost use Rattle.kt_grammar.specs.Moves.{EatsOn, ExpectsOn};
+ghost use Rattle.kt_grammar.specs.Tokens.{marked};
 
 use kc_text::Fail;
 use kt_bodies::is_marked;
+use kt_grammar::{Cursor, eat, is_at};
 use kt_lexer::Token;
-use kt_parser::{Cursor, eat, is_at};
 
 /// A word of members.
 #[derive(Clone, Copy)]

@@ -3,9 +3,9 @@ ghost use Rattle.std.specs.Prelude.{◌≤◌, length, false, []};
 ghost use Rattle.grammars.specs.Grammar.{row};
 ghost use Rattle.kt_members.specs.Members as spec;
 ghost use Rattle.kt_functions.specs.Sites.{site_of};
-ghost use Rattle.kt_parser.specs.DeclarationsBuilt as built;
-ghost use Rattle.kt_parser.specs.Parsed.{Advances};
-ghost use Rattle.kt_parser.specs.Rows as rows;
+ghost use Rattle.kt_grammar.specs.DeclarationsBuilt as built;
+ghost use Rattle.kt_grammar.specs.Parsed.{Advances};
+ghost use Rattle.kt_grammar.specs.Rows as rows;
 
 use crate::modifier_words::{eat_modifier, is_abstract_by};
 use crate::nodes::modified_member_at;
@@ -13,8 +13,8 @@ use crate::properties::property;
 use kc_text::Fail;
 use kc_tree::{Member, MemberKind, Mod};
 use kt_functions::{Site, function, is_word_at};
+use kt_grammar::{Cursor, span_between};
 use kt_lexer::{Keyword, Token};
-use kt_parser::{Cursor, span_between};
 use sqlite_items::Items;
 use std::alloc::Global;
 

@@ -4,16 +4,16 @@ ghost use Rattle.grammars.specs.Grammar.{first, test};
 ghost use Rattle.kt_members.specs.Members as members;
 ghost use Rattle.kt_members.specs.Modifiers as spec;
 ghost use Rattle.kt_functions.specs.Sites.{site_of};
-ghost use Rattle.kt_parser.specs.Beginnings.{of_kind};
-ghost use Rattle.kt_parser.specs.Rows as rows;
-ghost use Rattle.kt_parser.specs.Tokens as tokens_of;
-ghost use Rattle.kt_parser.specs.Tokens.{marked};
+ghost use Rattle.kt_grammar.specs.Beginnings.{of_kind};
+ghost use Rattle.kt_grammar.specs.Rows as rows;
+ghost use Rattle.kt_grammar.specs.Tokens as tokens_of;
+ghost use Rattle.kt_grammar.specs.Tokens.{marked};
 
 use kc_tree::Mod;
 use kt_bodies::is_marked;
 use kt_functions::{Site, modifier_of};
+use kt_grammar::{Cursor, class, is_at};
 use kt_lexer::{Keyword, Token, TokenKind};
-use kt_parser::{Cursor, class, is_at};
 
 fn is_modifier_name(kind: &TokenKind) -> bool
     ensures { result ≡ tokens_of.is_modifier_name (of_kind kind.now) }

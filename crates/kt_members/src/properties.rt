@@ -3,10 +3,10 @@ ghost use Rattle.std.specs.Prelude.{◌≡◌, ◌≤◌, length, drop, false};
 ghost use Rattle.grammars.specs.Grammar.{row, left, first, test};
 ghost use Rattle.kt_members.specs.Properties as spec;
 ghost use Rattle.kt_functions.specs.Sites.{site_of};
-ghost use Rattle.kt_parser.specs.DeclarationsBuilt as built;
-ghost use Rattle.kt_parser.specs.Parsed.{Advances};
-ghost use Rattle.kt_parser.specs.Rows as rows;
-ghost use Rattle.kt_parser.specs.Tokens.{is_word};
+ghost use Rattle.kt_grammar.specs.DeclarationsBuilt as built;
+ghost use Rattle.kt_grammar.specs.Parsed.{Advances};
+ghost use Rattle.kt_grammar.specs.Rows as rows;
+ghost use Rattle.kt_grammar.specs.Tokens.{is_word};
 
 use crate::getters::accessors;
 use crate::member_words::{MemberWord, is_member_word_at};
@@ -14,10 +14,10 @@ use crate::nodes::{bare, with_accessors, with_value};
 use kc_text::Fail;
 use kc_tree::{Prop, Type, Word};
 use kt_bodies::{Terminal, expect_name_on, expect_on};
-use kt_expressions::expression_at;
 use kt_functions::{Site, is_word_at};
+use kt_grammar::{Cursor, behind, colon_type, expect_op_on, is_op_at};
 use kt_lexer::{Keyword, Operator, Token};
-use kt_parser::{Cursor, behind, colon_type, expect_op_on, is_op_at};
+use kt_parser::expression_at;
 use std::alloc::Global;
 
 /// A property with `=` and a value at the place.

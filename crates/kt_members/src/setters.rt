@@ -2,9 +2,9 @@
 ghost use Rattle.std.specs.Prelude.{◌≤◌, length};
 ghost use Rattle.grammars.specs.Grammar.{row};
 ghost use Rattle.kt_members.specs.Setters as spec;
-ghost use Rattle.kt_parser.specs.DeclarationsBuilt as built;
-ghost use Rattle.kt_parser.specs.Parsed.{Advances};
-ghost use Rattle.kt_parser.specs.Rows as rows;
+ghost use Rattle.kt_grammar.specs.DeclarationsBuilt as built;
+ghost use Rattle.kt_grammar.specs.Parsed.{Advances};
+ghost use Rattle.kt_grammar.specs.Rows as rows;
 
 use crate::member_words::{MemberWord, expect_word, is_marked_word, is_member_word_at};
 use crate::nodes::setter_with;
@@ -12,8 +12,8 @@ use kc_text::Fail;
 use kc_tree::{Setter, Word};
 use kt_bodies::expect_name_on;
 use kt_functions::body;
+use kt_grammar::{Cursor, expect_op_on, span_between};
 use kt_lexer::{Operator, Token};
-use kt_parser::{Cursor, expect_op_on, span_between};
 use std::alloc::Global;
 
 /// A name in brackets.

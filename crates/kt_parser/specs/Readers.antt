@@ -1,25 +1,23 @@
--- Function values that read expressions of a row.
-use Rattle.std.specs.Prelude.{◌≡◌, ℕ, ◌≤◌, List, length, Result}
-use Rattle.std.specs.declared.alloc.Global.{Global}
-use denote.Ref.{Bor}
-use Rattle.grammars.specs.Grammar.{Cst, row}
+-- What is read from a place on, where no test has looked before.
+use Rattle.std.specs.Prelude.{◌≡◌, ℕ, List, Result, Ok, Err}
+use Rattle.grammars.specs.Grammar.{row}
 use Rattle.kc_text.specs.declared.errors.Fail.{Fail}
 use Rattle.kc_tree.specs.declared.expr.Expr.{Expr}
 use Rattle.kt_lexer.specs.declared.token.Token.{Token}
-use Rattle.kt_parser.specs.declared.cursor.Cursor.{Cursor}
-use Rattle.kt_parser.specs.Built as built
-use Rattle.kt_parser.specs.Parsed.{Advances}
-use Rattle.kt_parser.specs.Rows as rows
-use Rattle.kt_parser.specs.Rows.{Row}
+use Rattle.kt_grammar.specs.declared.cursor.Cursor.{Cursor}
+use Rattle.kt_grammar.specs.Built as built
+use Rattle.kt_grammar.specs.Parsed.{Advanced, Halts}
+use Rattle.kt_grammar.specs.Rows as rows
 
--- it reads one of the row at each place from one on
-pub record ReadsFrom (n : Row) (build : Cst Token → Expr) (ts : List Token) (from : ℕ) (pre : Cursor → Type 0) (post : Cursor → Result (Expr × Cursor) (Fail ℕ) → Type 0) : Type 0 where
-  pub callable : (at : Cursor) → from ≤ at.at → at.at ≤ length ts → pre at
-  pub reads : (at : Cursor) (r : Result (Expr × Cursor) (Fail ℕ)) → from ≤ at.at → at.at ≤ length ts → post at r → Advances (row n) build ts at r
+abbrev pub begin : ℕ → Cursor
+begin at = record { at = at; looked = 0 }
 
--- the same of one that is handed the tokens
-pub record ReadsPostfix (ts : List Token) (from : ℕ) (pre : Global → Bor (List Token) → Cursor → Type 0)
-    (post : Global → Bor (List Token) → Cursor → Result (Expr × Cursor) (Fail ℕ) → Type 0) : Type 0 where
-  pub callable : (alloc : Global) (s : Bor (List Token)) (at : Cursor) → s.now ≡ ts → from ≤ at.at → at.at ≤ length ts → pre alloc s at
-  pub reads : (alloc : Global) (s : Bor (List Token)) (at : Cursor) (r : Result (Expr × Cursor) (Fail ℕ)) → s.now ≡ ts → from ≤ at.at → at.at ≤ length ts
-      → post alloc s at r → Advances (row rows.postfix) built.postfix_of ts at r
+-- the one reading of an expression, up to a place
+pub record Expressed (ts : List Token) (start end : ℕ) (x : Expr) : Type 0 where
+  pub last : Cursor
+  pub ends : end ≡ last.at
+  pub advanced : Advanced (row rows.expression) built.expression_of ts (begin start) last x
+
+abbrev pub Expresses : List Token → ℕ → Result (Expr × ℕ) (Fail ℕ) → Type 0
+Expresses ts start (Ok p) = Expressed ts start p.1 p.0
+Expresses ts start (Err e) = Halts (row rows.expression) ts (begin start) e

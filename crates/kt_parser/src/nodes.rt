@@ -1,220 +1,109 @@
-//! Nodes of expressions, each from its parts.
+//! Nodes of expressions and statements, each from its parts.
 ghost use Rattle.std.specs.Prelude.{◌≡◌, IfOk};
+ghost use Rattle.kc_tree.specs.declared.expr.ExprKind.TheVariants as kinds;
+ghost use Rattle.kt_parser.specs.Primaries as primaries;
+ghost use Rattle.kt_parser.specs.Statements as statements;
 ghost use Rattle.kt_lexer.specs.declared.token.TokenKind.TheVariants as token_kinds;
-ghost use Rattle.kt_parser.specs.Built as built;
-ghost use Rattle.kt_parser.specs.TypesBuilt as types_built;
+ghost use Rattle.kt_grammar.specs.Built as built;
 
-use crate::tokens::{class, keyword_class, operator_class};
-use kc_tree::{BinaryOp, Expr, ExprKind, PrefixOp, Span, Type, Word};
+use kc_tree::{AssignOp, Expr, ExprKind, Span, Word};
 use kt_lexer::{Keyword, Operator, Token, TokenKind};
 use sqlite_items::Boxed;
 use std::alloc::{AllocError, Global};
 
-/// From the start of one stretch of text to the end of another behind it.
-pub fn across(begin: Span, end: Span) -> Span
-    ensures { result ≡ built.across begin end }
+fn keyword_atom(keyword: Keyword) -> ExprKind
+    ensures { result ≡ built.atom_of_token (token_kinds.Word keyword) }
 {
-    Span {
-        file: begin.file,
-        start: begin.start,
-        end: end.end,
+    match keyword {
+        Keyword::True => ExprKind::Truth(true),
+        Keyword::False => ExprKind::Truth(false),
+        Keyword::This => ExprKind::This,
+        _ => ExprKind::Null,
     }
 }
 
-fn prefix_op(operator: Operator) -> PrefixOp
-    ensures { result ≡ built.prefix_of_token (token_kinds.Op operator) }
-{
-    match operator {
-        Operator::Plus => PrefixOp::Plus,
-        Operator::Not => PrefixOp::Not,
-        Operator::Increment => PrefixOp::Inc,
-        Operator::Decrement => PrefixOp::Dec,
-        _ => PrefixOp::Minus,
-    }
-}
-
-/// The operator that a token before an operand stands for.
-fn prefix_operator(kind: &TokenKind) -> PrefixOp
-    ensures { result ≡ built.prefix_of_token kind.now }
+fn atom_kind(kind: &TokenKind) -> ExprKind
+    ensures { result ≡ built.atom_of_token kind.now }
 {
     match kind {
-        TokenKind::Op(operator) => prefix_op(*operator),
-        _ => PrefixOp::Minus,
+        TokenKind::Number { value, long } => ExprKind::Number {
+            value: *value,
+            long: *long,
+        },
+        TokenKind::CharLiteral(unit) => ExprKind::Char(*unit),
+        TokenKind::Word(keyword) => keyword_atom(*keyword),
+        _ => ExprKind::Null,
     }
 }
 
-fn binary_op(operator: Operator) -> BinaryOp
-    ensures { result ≡ built.binary_of_token (token_kinds.Op operator) }
+/// What a token stands for that is no name.
+pub fn atom(token: &Token) -> Expr
+    ensures { result ≡ primaries.atom_of token.now }
 {
-    match operator {
-        Operator::Or => BinaryOp::Or,
-        Operator::And => BinaryOp::And,
-        Operator::EqualEqual => BinaryOp::Equal,
-        Operator::NotEqual => BinaryOp::NotEqual,
-        Operator::Identical => BinaryOp::Same,
-        Operator::NotIdentical => BinaryOp::NotSame,
-        Operator::Less => BinaryOp::Less,
-        Operator::Greater => BinaryOp::Greater,
-        Operator::LessEqual => BinaryOp::LessEqual,
-        Operator::GreaterEqual => BinaryOp::GreaterEqual,
-        Operator::Elvis => BinaryOp::Elvis,
-        Operator::Range => BinaryOp::RangeTo,
-        Operator::RangeUntil => BinaryOp::RangeUntil,
-        Operator::Minus => BinaryOp::Minus,
-        Operator::Times => BinaryOp::Times,
-        Operator::Divide => BinaryOp::Div,
-        Operator::Remainder => BinaryOp::Rem,
-        _ => BinaryOp::Plus,
-    }
-}
-
-/// The operator that a token between two operands stands for.
-fn binary_operator(kind: &TokenKind) -> BinaryOp
-    ensures { result ≡ built.binary_of_token kind.now }
-{
-    match kind {
-        TokenKind::Op(operator) => binary_op(*operator),
-        _ => BinaryOp::Plus,
-    }
-}
-
-/// `!in`, `!is`
-pub fn is_negated(kind: &TokenKind) -> bool
-    ensures { result ≡ built.is_negated kind.now }
-{
-    let class = class(kind);
-    class == keyword_class(Keyword::NotIn) || class == keyword_class(Keyword::NotIs)
-}
-
-/// `as?`, `?.`
-pub fn is_safe(kind: &TokenKind) -> bool
-    ensures { result ≡ built.is_safe kind.now }
-{
-    let class = class(kind);
-    class == keyword_class(Keyword::AsSafe) || class == operator_class(Operator::SafeDot)
-}
-
-fn number_of(kind: &TokenKind) -> usize
-    ensures { result ≡ types_built.number_of kind.now }
-{
-    match kind {
-        TokenKind::Name(name) => *name,
-        TokenKind::Label(name) => *name,
-        TokenKind::LabelUse(name) => *name,
-        TokenKind::StringName(name) => *name,
-        _ => 0,
-    }
-}
-
-/// The name that a token holds.
-pub fn word_of(token: &Token) -> Word
-    ensures { result ≡ types_built.word_of token.now }
-{
-    Word {
+    Expr {
         span: token.span,
-        name: number_of(&token.kind),
+        kind: atom_kind(&token.kind),
     }
 }
 
-/// An operand behind an operator, by the operator's token.
-pub fn prefixed(alloc: Global, token: &Token, of: Expr) -> Result<Expr, AllocError>
-    ensures { IfOk result (λ x. x ≡ built.prefixed token.now of) }
+/// A name alone.
+pub fn named(word: Word) -> Expr
+    ensures { result ≡ record { span = word.span; kind = kinds.Name word.name } }
 {
-    let span = across(token.span, of.span);
-    let op = prefix_operator(&token.kind);
-    let of = Boxed::new(alloc, of)?;
+    Expr {
+        span: word.span,
+        kind: ExprKind::Name(word.name),
+    }
+}
+
+/// An expression in brackets that stand at `span`.
+pub fn bracketed(alloc: Global, span: Span, of: Expr) -> Result<Expr, AllocError>
+    ensures { IfOk result (λ x. x ≡ record { span = span; kind = kinds.Paren of }) }
+{
     Ok(Expr {
         span,
-        kind: ExprKind::Prefix { op, of },
+        kind: ExprKind::Paren(Boxed::new(alloc, of)?),
     })
 }
 
-/// Two operands with an operator between them, by the operator's token.
-pub fn binary(alloc: Global, token: &Token, left: Expr, right: Expr) -> Result<Expr, AllocError>
-    ensures { IfOk result (λ x. x ≡ built.binary left token.now right) }
+fn operator_sets(operator: Operator) -> AssignOp
+    ensures { result ≡ built.assign_of_token (token_kinds.Op operator) }
 {
-    let span = across(left.span, right.span);
-    let op = binary_operator(&token.kind);
-    let left = Boxed::new(alloc, left)?;
-    let right = Boxed::new(alloc, right)?;
+    match operator {
+        Operator::PlusAssign => AssignOp::Plus,
+        Operator::MinusAssign => AssignOp::Minus,
+        Operator::TimesAssign => AssignOp::Times,
+        Operator::DivideAssign => AssignOp::Div,
+        Operator::RemainderAssign => AssignOp::Rem,
+        _ => AssignOp::Set,
+    }
+}
+
+fn assign_op(kind: &TokenKind) -> AssignOp
+    ensures { result ≡ built.assign_of_token kind.now }
+{
+    match kind {
+        TokenKind::Op(operator) => operator_sets(*operator),
+        _ => AssignOp::Set,
+    }
+}
+
+/// A place and the value that it gets.
+pub fn assigned(alloc: Global, token: &Token, place: Expr, value: Expr) -> Result<Expr, AllocError>
+    ensures { IfOk result (λ x. x ≡ statements.assigned place token.now value) }
+{
+    let span = Span {
+        file: place.span.file,
+        start: place.span.start,
+        end: value.span.end,
+    };
     Ok(Expr {
         span,
-        kind: ExprKind::Binary {
-            op,
+        kind: ExprKind::Assign {
+            op: assign_op(&token.kind),
             token: token.span,
-            left,
-            right,
+            place: Boxed::new(alloc, place)?,
+            value: Boxed::new(alloc, value)?,
         },
-    })
-}
-
-/// A named function between its operands, by the name's token.
-pub fn infix_call(alloc: Global, token: &Token, left: Expr, right: Expr) -> Result<Expr, AllocError>
-    ensures { IfOk result (λ x. x ≡ built.infix_call left token.now right) }
-{
-    let span = across(left.span, right.span);
-    let name = word_of(token);
-    let left = Boxed::new(alloc, left)?;
-    let right = Boxed::new(alloc, right)?;
-    Ok(Expr {
-        span,
-        kind: ExprKind::Infix { left, name, right },
-    })
-}
-
-/// `in` or `!in`, by its token.
-pub fn contained(alloc: Global, token: &Token, value: Expr, range: Expr) -> Result<Expr, AllocError>
-    ensures { IfOk result (λ x. x ≡ built.contained value token.now range) }
-{
-    let span = across(value.span, range.span);
-    let negated = is_negated(&token.kind);
-    let value = Boxed::new(alloc, value)?;
-    let range = Boxed::new(alloc, range)?;
-    Ok(Expr {
-        span,
-        kind: ExprKind::In {
-            negated,
-            token: token.span,
-            value,
-            range,
-        },
-    })
-}
-
-/// `is` or `!is`, by its token, with a type that stands at `written`.
-pub fn typed(
-    alloc: Global,
-    token: &Token,
-    value: Expr,
-    ty: Type,
-    written: Span,
-) -> Result<Expr, AllocError>
-    ensures { IfOk result (λ x. x ≡ built.typed value token.now ty written) }
-{
-    let span = across(value.span, written);
-    let negated = is_negated(&token.kind);
-    let value = Boxed::new(alloc, value)?;
-    Ok(Expr {
-        span,
-        kind: ExprKind::Is { negated, value, ty },
-    })
-}
-
-/// `as` or `as?`, by its token, with a type that stands at `written`.
-pub fn cast(
-    alloc: Global,
-    token: &Token,
-    value: Expr,
-    ty: Type,
-    written: Span,
-) -> Result<Expr, AllocError>
-    ensures { IfOk result (λ x. x ≡ built.cast value token.now ty written) }
-{
-    let span = across(value.span, written);
-    let safe = is_safe(&token.kind);
-    let value = Boxed::new(alloc, value)?;
-    Ok(Expr {
-        span,
-        kind: ExprKind::As { safe, value, ty },
     })
 }

@@ -3,9 +3,9 @@
 use crate::line_of;
 use kc_text::{Fail, Names, Text};
 use kc_tree::Expr;
-use kt_expressions::{expression, statement};
+use kt_grammar::Cursor;
 use kt_lexer::{Token, tokens};
-use kt_parser::Cursor;
+use kt_parser::{expression, statement};
 use sqlite_items::Items;
 use std::alloc::Global;
 use std::process::Abort;

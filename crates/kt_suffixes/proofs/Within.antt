@@ -4,14 +4,14 @@ use Rattle.grammars.specs.Automata.{Step, stop}
 use Rattle.kt_lexer.specs.declared.token.Token.{Token}
 use Rattle.kt_lexer.specs.declared.token.Keyword.TheVariants as keyword
 use Rattle.kt_lexer.specs.declared.token.Operator.TheVariants as operator
-use Rattle.kt_parser.specs.Lookahead.{at, no, behind_comma, behind_greater, behind_round, behind_empty, behind_type, type_end, group_end, type_start, argument_start, behind_name, behind_argument, projected, item, behind_star, go_if, step_in}
-use Rattle.kt_parser.specs.Tokens.{is_op, is_word, is_name, is_out, begins_type}
-use Rattle.kt_parser.specs.declared.lookahead.Frame.{Frame}
-use Rattle.kt_parser.specs.declared.lookahead.Frame.TheVariants as frame
-use Rattle.kt_parser.specs.declared.lookahead.Goal.TheVariants as goal
-use Rattle.kt_parser.specs.declared.lookahead.Mode.{Mode}
-use Rattle.kt_parser.specs.declared.lookahead.Mode.TheVariants as mode
-use Rattle.kt_parser.specs.declared.lookahead.Place.{Place}
+use Rattle.kt_grammar.specs.Lookahead.{at, no, behind_comma, behind_greater, behind_round, behind_empty, behind_type, type_end, group_end, type_start, argument_start, behind_name, behind_argument, projected, item, behind_star, go_if, step_in}
+use Rattle.kt_grammar.specs.Tokens.{is_op, is_word, is_name, is_out, begins_type}
+use Rattle.kt_grammar.specs.declared.lookahead.Frame.{Frame}
+use Rattle.kt_grammar.specs.declared.lookahead.Frame.TheVariants as frame
+use Rattle.kt_grammar.specs.declared.lookahead.Goal.TheVariants as goal
+use Rattle.kt_grammar.specs.declared.lookahead.Mode.{Mode}
+use Rattle.kt_grammar.specs.declared.lookahead.Mode.TheVariants as mode
+use Rattle.kt_grammar.specs.declared.lookahead.Place.{Place}
 use Rattle.kt_suffixes.specs.Moves.{behind}
 
 -- the modes in which a bracket is open, or a test has not found what it looks for

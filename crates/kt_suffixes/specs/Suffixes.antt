@@ -2,13 +2,13 @@
 use Rattle.std.specs.Prelude.{◌≡◌, ℕ, suc, ◌+◌, ◌<◌, false, List, ◌∷◌, drop, length, get_or, ⊤}
 use Rattle.grammars.specs.Automata.{accepts, goes}
 use Rattle.kt_lexer.specs.declared.token.Token.{Token}
-use Rattle.kt_parser.specs.Lookahead.{step, at_end, suffix_follows}
-use Rattle.kt_parser.specs.declared.lookahead.Frame.{Frame}
-use Rattle.kt_parser.specs.declared.lookahead.Frame.TheVariants as frame
-use Rattle.kt_parser.specs.declared.lookahead.Goal.TheVariants as goal
-use Rattle.kt_parser.specs.declared.lookahead.Look.{Look}
-use Rattle.kt_parser.specs.declared.lookahead.Mode.TheVariants as mode
-use Rattle.kt_parser.specs.declared.lookahead.Place.{Place}
+use Rattle.kt_grammar.specs.Lookahead.{step, at_end, suffix_follows}
+use Rattle.kt_grammar.specs.declared.lookahead.Frame.{Frame}
+use Rattle.kt_grammar.specs.declared.lookahead.Frame.TheVariants as frame
+use Rattle.kt_grammar.specs.declared.lookahead.Goal.TheVariants as goal
+use Rattle.kt_grammar.specs.declared.lookahead.Look.{Look}
+use Rattle.kt_grammar.specs.declared.lookahead.Mode.TheVariants as mode
+use Rattle.kt_grammar.specs.declared.lookahead.Place.{Place}
 use Rattle.kt_suffixes.specs.declared.moves.Ending.{Ending}
 use Rattle.kt_suffixes.specs.declared.moves.Ending.TheVariants as ending
 use Rattle.kt_suffixes.specs.Moves.{behind}

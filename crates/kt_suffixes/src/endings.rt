@@ -1,12 +1,12 @@
 //! Where the type arguments end that each `<` opens, from the last one back.
 ghost use Rattle.std.specs.Prelude.{◌≡◌, ◌<◌, List, IfOk, length, slice_set, []};
 ghost use Rattle.kt_lexer.specs.declared.token.Token.{Token};
-ghost use Rattle.kt_parser.specs.Lookahead as lookahead;
+ghost use Rattle.kt_grammar.specs.Lookahead as lookahead;
 ghost use Rattle.kt_suffixes.specs.Suffixes as spec;
 
 use crate::moves::{Ending, Move, advance};
+use kt_grammar::{Frame, Frames, Mode, Place, is_op_at};
 use kt_lexer::{Operator, Token};
-use kt_parser::{Frame, Frames, Mode, Place, is_op_at};
 use sqlite_items::Items;
 use std::alloc::{AllocError, Global};
 

@@ -3,8 +3,8 @@ ghost use Rattle.std.specs.Prelude.{◌≡◌, IfOk, drop, get_or};
 ghost use Rattle.kt_suffixes.specs.Moves as spec;
 ghost use Rattle.kt_suffixes.specs.declared.moves.Ending.TheVariants as ending_of;
 
+use kt_grammar::{Frame, Frames, Goal, Look, Mode, Next, Place, step};
 use kt_lexer::Token;
-use kt_parser::{Frame, Frames, Goal, Look, Mode, Next, Place, step};
 use std::alloc::AllocError;
 
 /// Where the type arguments end that a `<` opens.

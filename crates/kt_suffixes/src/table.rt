@@ -1,12 +1,12 @@
 //! The table of what follows an operand at each place.
 ghost use Rattle.std.specs.Prelude.{◌≡◌, ◌+◌, IfOk, drop};
-ghost use Rattle.kt_parser.specs.Lookahead as lookahead;
+ghost use Rattle.kt_grammar.specs.Lookahead as lookahead;
 ghost use Rattle.kt_suffixes.specs.Suffixes as spec;
 
 use crate::endings::endings_of;
 use crate::moves::{Ending, Move, advance};
+use kt_grammar::{Frames, Look, Mode, Place, suffix_follows};
 use kt_lexer::Token;
-use kt_parser::{Frames, Look, Mode, Place, suffix_follows};
 use sqlite_items::Items;
 use std::alloc::{AllocError, Global};
 

@@ -1,8 +1,8 @@
 //! What follows operands in small texts.
 use crate::{suffix_at, suffix_table};
 use kc_text::{Names, Text};
+use kt_grammar::suffix_follows;
 use kt_lexer::{Token, tokens};
-use kt_parser::suffix_follows;
 use sqlite_items::Items;
 use std::alloc::Global;
 use std::process::Abort;

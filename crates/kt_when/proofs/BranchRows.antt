@@ -11,20 +11,20 @@ use Rattle.kt_bodies.proofs.StatementRows.{has_statement}
 use Rattle.kt_lexer.specs.declared.token.Token.{Token}
 use Rattle.kt_lexer.specs.declared.token.Keyword.TheVariants as keyword
 use Rattle.kt_lexer.specs.declared.token.Operator.TheVariants as operator
-use Rattle.kt_parser.specs.declared.cursor.Cursor.{Cursor}
-use Rattle.kt_parser.specs.Built as built
-use Rattle.kt_parser.specs.Moves.{Moved}
-use Rattle.kt_parser.specs.Parsed.{Advanced, Advances}
-use Rattle.kt_parser.specs.Rows as rows
-use Rattle.kt_parser.specs.Rows.{grammar}
-use Rattle.kt_parser.specs.Tokens.{is_op, is_word}
-use Rattle.kt_parser.specs.TypesBuilt.{between}
-use Rattle.kt_parser.proofs.Advances.{halts_row, halts_right, halts_second, halts_after}
-use Rattle.kt_parser.proofs.Extents.{placed}
-use Rattle.kt_parser.proofs.Progress.{goes_on}
-use Rattle.kt_parser.proofs.SingleTokens.{word_token}
-use Rattle.kt_parser.proofs.Steps.{standing, has_both, read_one, read_both, read_row, read_first, read_second}
-use Rattle.kt_parser.proofs.TypeRows.{stretch, first_taken, has_op}
+use Rattle.kt_grammar.specs.declared.cursor.Cursor.{Cursor}
+use Rattle.kt_grammar.specs.Built as built
+use Rattle.kt_grammar.specs.Moves.{Moved}
+use Rattle.kt_grammar.specs.Parsed.{Advanced, Advances}
+use Rattle.kt_grammar.specs.Rows as rows
+use Rattle.kt_grammar.specs.Rows.{grammar}
+use Rattle.kt_grammar.specs.Tokens.{is_op, is_word}
+use Rattle.kt_grammar.specs.TypesBuilt.{between}
+use Rattle.kt_grammar.proofs.Advances.{halts_row, halts_right, halts_second, halts_after}
+use Rattle.kt_grammar.proofs.Extents.{placed}
+use Rattle.kt_grammar.proofs.Progress.{goes_on}
+use Rattle.kt_grammar.proofs.SingleTokens.{word_token}
+use Rattle.kt_grammar.proofs.Steps.{standing, has_both, read_one, read_both, read_row, read_first, read_second}
+use Rattle.kt_grammar.proofs.TypeRows.{stretch, first_taken, has_op}
 use Rattle.kt_when.specs.Branches.{begins_branch, begins_further_branch, head, conditions_of_head, begin_of, Head, ReadsHead, arrow_and_body, branch, behind_head}
 use Rattle.kt_when.specs.Conditions.{ReadsConditions}
 

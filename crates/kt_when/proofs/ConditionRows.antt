@@ -7,21 +7,21 @@ use Rattle.kc_tree.specs.declared.types.«Type».{«Type»}
 use Rattle.kc_tree.specs.declared.expr.Cond.{Cond}
 use Rattle.kt_lexer.specs.declared.token.Token.{Token}
 use Rattle.kt_lexer.specs.declared.token.Operator.TheVariants as operator
-use Rattle.kt_parser.specs.declared.cursor.Cursor.{Cursor}
-use Rattle.kt_parser.specs.Built as built
-use Rattle.kt_parser.specs.Moves.{Moved}
-use Rattle.kt_parser.specs.Parsed.{Advanced, Halts, Advances}
-use Rattle.kt_parser.specs.Rows as rows
-use Rattle.kt_parser.specs.Rows.{Row, grammar}
-use Rattle.kt_parser.specs.Signs.{TokenTaken}
-use Rattle.kt_parser.specs.Tokens.{is_op, is_in, is_is, begins_condition}
-use Rattle.kt_parser.specs.TypesBuilt as types_built
-use Rattle.kt_parser.specs.TypesBuilt.{span_of}
-use Rattle.kt_parser.proofs.Advances.{halts_row, halts_left, halts_right, halts_first, halts_second, halts_after}
-use Rattle.kt_parser.proofs.Extents.{between_is, placed}
-use Rattle.kt_parser.proofs.Progress.{goes_on}
-use Rattle.kt_parser.proofs.Steps.{standing, read_one, read_both, read_row, read_first, read_second, read_nothing}
-use Rattle.kt_parser.proofs.TypeRows.{stretch}
+use Rattle.kt_grammar.specs.declared.cursor.Cursor.{Cursor}
+use Rattle.kt_grammar.specs.Built as built
+use Rattle.kt_grammar.specs.Moves.{Moved}
+use Rattle.kt_grammar.specs.Parsed.{Advanced, Halts, Advances}
+use Rattle.kt_grammar.specs.Rows as rows
+use Rattle.kt_grammar.specs.Rows.{Row, grammar}
+use Rattle.kt_grammar.specs.Signs.{TokenTaken}
+use Rattle.kt_grammar.specs.Tokens.{is_op, is_in, is_is, begins_condition}
+use Rattle.kt_grammar.specs.TypesBuilt as types_built
+use Rattle.kt_grammar.specs.TypesBuilt.{span_of}
+use Rattle.kt_grammar.proofs.Advances.{halts_row, halts_left, halts_right, halts_first, halts_second, halts_after}
+use Rattle.kt_grammar.proofs.Extents.{between_is, placed}
+use Rattle.kt_grammar.proofs.Progress.{goes_on}
+use Rattle.kt_grammar.proofs.Steps.{standing, read_one, read_both, read_row, read_first, read_second, read_nothing}
+use Rattle.kt_grammar.proofs.TypeRows.{stretch}
 use Rattle.kt_when.specs.Conditions.{contained, typed, value, without_in, AllConditions}
 
 -- ---- one condition

@@ -7,13 +7,13 @@ use Rattle.kc_tree.specs.declared.expr.Branch.{Branch}
 use Rattle.kt_lexer.specs.declared.token.Token.{Token}
 use Rattle.kt_lexer.specs.declared.token.Keyword.TheVariants as keyword
 use Rattle.kt_lexer.specs.declared.token.Operator.TheVariants as operator
-use Rattle.kt_parser.specs.declared.cursor.Cursor.{Cursor}
-use Rattle.kt_parser.specs.Built as built
-use Rattle.kt_parser.specs.Parsed.{Advanced, Halts}
-use Rattle.kt_parser.specs.Rows as rows
-use Rattle.kt_parser.specs.Rows.{Row, op, word}
-use Rattle.kt_parser.specs.Tokens.{is_word, marked, begins_condition}
-use Rattle.kt_parser.specs.TypesBuilt.{first_of, last_of, between}
+use Rattle.kt_grammar.specs.declared.cursor.Cursor.{Cursor}
+use Rattle.kt_grammar.specs.Built as built
+use Rattle.kt_grammar.specs.Parsed.{Advanced, Halts}
+use Rattle.kt_grammar.specs.Rows as rows
+use Rattle.kt_grammar.specs.Rows.{Row, op, word}
+use Rattle.kt_grammar.specs.Tokens.{is_word, marked, begins_condition}
+use Rattle.kt_grammar.specs.TypesBuilt.{first_of, last_of, between}
 use Rattle.kt_when.specs.Conditions.{all_conditions, all_of, first_condition}
 
 -- ---- how branches follow one another

@@ -8,14 +8,14 @@ use Rattle.kc_tree.specs.declared.expr.Cond.{Cond}
 use Rattle.kc_tree.specs.declared.expr.Cond.TheVariants as cond
 use Rattle.kc_tree.specs.declared.types.«Type».{«Type»}
 use Rattle.kt_lexer.specs.declared.token.Token.{Token}
-use Rattle.kt_parser.specs.declared.cursor.Cursor.{Cursor}
-use Rattle.kt_parser.specs.Built as built
-use Rattle.kt_parser.specs.Built.{across, is_negated}
-use Rattle.kt_parser.specs.Parsed.{Advanced, Halts}
-use Rattle.kt_parser.specs.Rows as rows
-use Rattle.kt_parser.specs.Rows.{Row}
-use Rattle.kt_parser.specs.Tokens.{is_is}
-use Rattle.kt_parser.specs.TypesBuilt.{first_of}
+use Rattle.kt_grammar.specs.declared.cursor.Cursor.{Cursor}
+use Rattle.kt_grammar.specs.Built as built
+use Rattle.kt_grammar.specs.Built.{across, is_negated}
+use Rattle.kt_grammar.specs.Parsed.{Advanced, Halts}
+use Rattle.kt_grammar.specs.Rows as rows
+use Rattle.kt_grammar.specs.Rows.{Row}
+use Rattle.kt_grammar.specs.Tokens.{is_is}
+use Rattle.kt_grammar.specs.TypesBuilt.{first_of}
 
 -- by the token before the value
 abbrev pub contained : Token → Expr → Cond

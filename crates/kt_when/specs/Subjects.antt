@@ -10,11 +10,11 @@ use Rattle.kc_tree.specs.declared.expr.LocalName.{LocalName}
 use Rattle.kt_lexer.specs.declared.token.Token.{Token}
 use Rattle.kt_lexer.specs.declared.token.Keyword.TheVariants as keyword
 use Rattle.kt_lexer.specs.declared.token.Operator.TheVariants as operator
-use Rattle.kt_parser.specs.Built as built
-use Rattle.kt_parser.specs.Rows as rows
-use Rattle.kt_parser.specs.Rows.{Row, op, word, maybe}
-use Rattle.kt_parser.specs.Tokens.{is_op, is_word}
-use Rattle.kt_parser.specs.TypesBuilt.{no_span, word_of}
+use Rattle.kt_grammar.specs.Built as built
+use Rattle.kt_grammar.specs.Rows as rows
+use Rattle.kt_grammar.specs.Rows.{Row, op, word, maybe}
+use Rattle.kt_grammar.specs.Tokens.{is_op, is_word}
+use Rattle.kt_grammar.specs.TypesBuilt.{no_span, word_of}
 use Rattle.kt_when.specs.declared.subjects.Subject.{Subject}
 
 -- ---- the variable

@@ -2,13 +2,13 @@
 ghost use Rattle.std.specs.Prelude.{◌≡◌, drop};
 ghost use Rattle.grammars.specs.Grammar.{first, test};
 ghost use Rattle.kt_lexer.specs.declared.token.Keyword.TheVariants as keywords;
-ghost use Rattle.kt_parser.specs.Tokens as tokens_of;
+ghost use Rattle.kt_grammar.specs.Tokens as tokens_of;
 ghost use Rattle.kt_when.specs.Branches as spec;
 
 use crate::relations::begins_condition;
 use kt_bodies::is_marked;
+use kt_grammar::{is_at, keyword_class};
 use kt_lexer::{Keyword, Token};
-use kt_parser::{is_at, keyword_class};
 
 fn is_else_at(tokens: &[Token], at: usize) -> bool
     ensures { result ≡ test (tokens_of.is_word keywords.Else) (first (drop at tokens.now)) }

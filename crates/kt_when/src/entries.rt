@@ -2,10 +2,10 @@
 ghost use Rattle.std.specs.Prelude.{◌≤◌, ◌++◌, ◌∷◌, [], length, drop};
 ghost use Rattle.grammars.specs.Grammar.{row, first};
 ghost use Rattle.kt_bodies.specs.Statements.{ReadsStatement, Follows};
-ghost use Rattle.kt_parser.specs.Built as built;
-ghost use Rattle.kt_parser.specs.Expressions.{ReadsExpression};
-ghost use Rattle.kt_parser.specs.Parsed.{Advances};
-ghost use Rattle.kt_parser.specs.Rows as rows;
+ghost use Rattle.kt_grammar.specs.Built as built;
+ghost use Rattle.kt_grammar.specs.Expressions.{ReadsExpression};
+ghost use Rattle.kt_grammar.specs.Parsed.{Advances};
+ghost use Rattle.kt_grammar.specs.Rows as rows;
 ghost use Rattle.kt_when.specs.Branches as spec;
 
 use crate::beginnings::{begins_branch, begins_further_branch};
@@ -13,8 +13,8 @@ use crate::heads::head;
 use kc_text::Fail;
 use kc_tree::{Branch, Cond, Expr};
 use kt_bodies::{Bodies, as_body, behind_semicolons};
+use kt_grammar::{Cursor, eat_op_on, expect_op_on, span_between};
 use kt_lexer::{Operator, Token};
-use kt_parser::{Cursor, eat_op_on, expect_op_on, span_between};
 use sqlite_items::Items;
 use std::alloc::Global;
 

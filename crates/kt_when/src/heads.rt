@@ -1,11 +1,11 @@
 //! What stands before the arrow of a branch (Kotlin Language Specification 1.9, "When expressions").
 ghost use Rattle.std.specs.Prelude.{◌≤◌, ◌++◌, ◌∷◌, [], length};
 ghost use Rattle.grammars.specs.Grammar.{row, node, right};
-ghost use Rattle.kt_parser.specs.Built as built;
-ghost use Rattle.kt_parser.specs.Expressions.{ReadsExpression};
-ghost use Rattle.kt_parser.specs.Parsed.{Advances};
-ghost use Rattle.kt_parser.specs.Rows as rows;
-ghost use Rattle.kt_parser.specs.TypesBuilt as types_built;
+ghost use Rattle.kt_grammar.specs.Built as built;
+ghost use Rattle.kt_grammar.specs.Expressions.{ReadsExpression};
+ghost use Rattle.kt_grammar.specs.Parsed.{Advances};
+ghost use Rattle.kt_grammar.specs.Rows as rows;
+ghost use Rattle.kt_grammar.specs.TypesBuilt as types_built;
 ghost use Rattle.kt_when.specs.Branches.{ReadsHead};
 ghost use Rattle.kt_when.specs.Conditions as spec;
 
@@ -14,8 +14,8 @@ use crate::relations::{Relation, begins_condition, eat_relation};
 use kc_text::Fail;
 use kc_tree::{Cond, Expr};
 use kt_bodies::{Bodies, Terminal, eat_on};
+use kt_grammar::{Cursor, eat_op_on, span_between, type_before_arrow};
 use kt_lexer::{Keyword, Operator, Token};
-use kt_parser::{Cursor, eat_op_on, span_between, type_before_arrow};
 use sqlite_items::Items;
 use std::alloc::Global;
 

@@ -5,8 +5,8 @@ ghost use Rattle.kt_when.specs.Subjects.{when_at};
 
 use crate::subjects::Subject;
 use kc_tree::{Branch, Cond, Expr, ExprKind, Span, Type};
+use kt_grammar::{across, is_negated};
 use kt_lexer::Token;
-use kt_parser::{across, is_negated};
 use sqlite_items::Items;
 
 /// The condition `in` or `!in`, by its token.

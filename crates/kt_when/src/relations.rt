@@ -1,12 +1,12 @@
 //! With which tokens conditions begin (Kotlin Language Specification 1.9, "When expressions").
 ghost use Rattle.std.specs.Prelude.{◌≡◌, ◌≤◌, Some, length, drop};
 ghost use Rattle.grammars.specs.Grammar.{first, test};
-ghost use Rattle.kt_parser.specs.Signs.{TokenAt, EatsToken};
-ghost use Rattle.kt_parser.specs.Tokens as tokens_of;
+ghost use Rattle.kt_grammar.specs.Signs.{TokenAt, EatsToken};
+ghost use Rattle.kt_grammar.specs.Tokens as tokens_of;
 ghost use Rattle.kt_when.specs.Relations as spec;
 
+use kt_grammar::{Cursor, begins_expression, class, keyword_class};
 use kt_lexer::{Keyword, Token};
-use kt_parser::{Cursor, begins_expression, class, keyword_class};
 
 /// What stands before the value or the type in a condition.
 #[derive(Clone, Copy)]

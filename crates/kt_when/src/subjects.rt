@@ -2,10 +2,10 @@
 ghost use Rattle.std.specs.Prelude.{◌≤◌, length};
 ghost use Rattle.grammars.specs.Grammar.{row};
 ghost use Rattle.kt_bodies.specs.Statements.{ReadsStatement};
-ghost use Rattle.kt_parser.specs.Built as built;
-ghost use Rattle.kt_parser.specs.Expressions.{ReadsExpression};
-ghost use Rattle.kt_parser.specs.Parsed.{Advances};
-ghost use Rattle.kt_parser.specs.Rows as rows;
+ghost use Rattle.kt_grammar.specs.Built as built;
+ghost use Rattle.kt_grammar.specs.Expressions.{ReadsExpression};
+ghost use Rattle.kt_grammar.specs.Parsed.{Advances};
+ghost use Rattle.kt_grammar.specs.Rows as rows;
 ghost use Rattle.kt_when.specs.Subjects as spec;
 
 use crate::entries::branches;
@@ -13,8 +13,8 @@ use crate::nodes::when_of;
 use kc_text::Fail;
 use kc_tree::{Branch, Expr, LocalName};
 use kt_bodies::{Bodies, Terminal, eat_on, expect_name_on, expect_on};
+use kt_grammar::{Cursor, behind, colon_type, eat_op_on, expect_op_on, span_between};
 use kt_lexer::{Keyword, Operator, Token};
-use kt_parser::{Cursor, behind, colon_type, eat_op_on, expect_op_on, span_between};
 use sqlite_items::{Boxed, Items};
 use std::alloc::Global;
 

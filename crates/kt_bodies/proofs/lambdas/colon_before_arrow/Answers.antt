@@ -1,6 +1,6 @@
 use Rattle.std.proofs.lemmas.Result.{err_from_is_err_and}
-use Rattle.kt_parser.proofs.Advances.{halts_left, halts_after}
-use Rattle.kt_parser.proofs.Steps.{standing}
+use Rattle.kt_grammar.proofs.Advances.{halts_left, halts_after}
+use Rattle.kt_grammar.proofs.Steps.{standing}
 use Rattle.kt_bodies.proofs.LambdaRows.{no_type_written, type_written}
 use Rattle.kt_bodies.proofs.lambdas.colon_before_arrow.Goals as goal
 

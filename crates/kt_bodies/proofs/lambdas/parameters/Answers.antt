@@ -1,6 +1,6 @@
 use Rattle.std.proofs.Common.{Err, Ok, arith, sym, ◌∙◌}
 use Rattle.std.proofs.lemmas.Result.{err_from_is_err_and}
-use Rattle.kt_parser.proofs.Advances.{halts_row, halts_first}
+use Rattle.kt_grammar.proofs.Advances.{halts_row, halts_first}
 use Rattle.kt_bodies.proofs.LambdaRows.{has_no_parameter, last_parameter, last_comma, parameters_turn}
 use Rattle.kt_bodies.proofs.lambdas.parameters.Goals as goal
 

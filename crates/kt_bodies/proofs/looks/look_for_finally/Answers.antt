@@ -1,8 +1,8 @@
 use Rattle.grammars.specs.Grammar.{next}
 use Rattle.grammars.proofs.Later.{begun_here}
 use Rattle.kt_lexer.specs.declared.token.Operator.TheVariants as operator
-use Rattle.kt_parser.specs.Rows.{grammar}
-use Rattle.kt_parser.specs.Tokens.{is_op, is_finally}
+use Rattle.kt_grammar.specs.Rows.{grammar}
+use Rattle.kt_grammar.specs.Tokens.{is_op, is_finally}
 use Rattle.kt_bodies.proofs.Looking.{says_no, says_on, says_next, looked_at}
 use Rattle.kt_bodies.proofs.TryRows.{has_last_clause, finally_begun}
 use Rattle.kt_bodies.proofs.looks.look_for_finally.Goals as goal

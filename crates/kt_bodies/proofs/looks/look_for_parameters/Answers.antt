@@ -1,8 +1,8 @@
 use Rattle.grammars.specs.Grammar.{next}
 use Rattle.grammars.proofs.Later.{begun_here}
 use Rattle.kt_bodies.specs.Lambdas.{parameter_end}
-use Rattle.kt_parser.specs.Rows.{grammar}
-use Rattle.kt_parser.specs.Tokens.{is_name}
+use Rattle.kt_grammar.specs.Rows.{grammar}
+use Rattle.kt_grammar.specs.Tokens.{is_name}
 use Rattle.kt_bodies.proofs.LambdaRows.{has_behind_parameters, parameters_begun}
 use Rattle.kt_bodies.proofs.Looking.{says_no, says_on, says_next, looked_at}
 use Rattle.kt_bodies.proofs.looks.look_for_parameters.Goals as goal

@@ -1,6 +1,6 @@
 use Rattle.std.proofs.lemmas.Result.{err_from_is_err_and}
-use Rattle.kt_parser.proofs.Advances.{halts_row, halts_first, halts_second, halts_after}
-use Rattle.kt_parser.proofs.TypeRows.{has_name}
+use Rattle.kt_grammar.proofs.Advances.{halts_row, halts_first, halts_second, halts_after}
+use Rattle.kt_grammar.proofs.TypeRows.{has_name}
 use Rattle.kt_bodies.proofs.SuperRows.{has_super_end, has_dot_name, super_from}
 use Rattle.kt_bodies.proofs.supers.super_.Goals as goal
 

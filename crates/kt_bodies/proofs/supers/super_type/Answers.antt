@@ -1,12 +1,12 @@
 use Rattle.std.proofs.lemmas.Result.{err_from_is_err_and}
 use Rattle.grammars.specs.Grammar.{row}
 use Rattle.kt_lexer.specs.declared.token.Operator.TheVariants as operator
-use Rattle.kt_parser.specs.Rows as rows
-use Rattle.kt_parser.specs.TypesBuilt as types_built
-use Rattle.kt_parser.proofs.Advances.{halts_left, halts_first, halts_second, halts_after}
-use Rattle.kt_parser.proofs.OperandRows.{from_near}
-use Rattle.kt_parser.proofs.Steps.{standing}
-use Rattle.kt_parser.proofs.TypeRows.{has_op}
+use Rattle.kt_grammar.specs.Rows as rows
+use Rattle.kt_grammar.specs.TypesBuilt as types_built
+use Rattle.kt_grammar.proofs.Advances.{halts_left, halts_first, halts_second, halts_after}
+use Rattle.kt_grammar.proofs.OperandRows.{from_near}
+use Rattle.kt_grammar.proofs.Steps.{standing}
+use Rattle.kt_grammar.proofs.TypeRows.{has_op}
 use Rattle.kt_bodies.proofs.SuperRows.{no_super_type, super_type_from}
 use Rattle.kt_bodies.proofs.supers.super_type.Goals as goal
 

@@ -1,6 +1,6 @@
 use Rattle.std.proofs.Common.{refl}
-use Rattle.kt_parser.proofs.Advances.{not_one}
-use Rattle.kt_parser.proofs.SingleTokens.{a_name}
+use Rattle.kt_grammar.proofs.Advances.{not_one}
+use Rattle.kt_grammar.proofs.SingleTokens.{a_name}
 use Rattle.kt_bodies.proofs.TokenRows.{name_moved}
 use Rattle.kt_bodies.proofs.terminals.expect_name_on.Goals as goal
 

@@ -1,4 +1,4 @@
-use Rattle.kt_parser.proofs.Advances.{not_one}
+use Rattle.kt_grammar.proofs.Advances.{not_one}
 use Rattle.kt_bodies.proofs.TokenRows.{sample, is_sample}
 use Rattle.kt_bodies.proofs.terminals.expect_on.Goals as goal
 

@@ -1,11 +1,11 @@
 use Rattle.std.proofs.lemmas.Result.{err_from_is_err_and}
 use Rattle.grammars.specs.Grammar.{row}
 use Rattle.kt_lexer.specs.declared.token.Operator.TheVariants as operator
-use Rattle.kt_parser.specs.Rows as rows
-use Rattle.kt_parser.specs.TypesBuilt as types_built
-use Rattle.kt_parser.proofs.Advances.{halts_first, halts_after}
-use Rattle.kt_parser.proofs.OperandRows.{from_near}
-use Rattle.kt_parser.proofs.TypeRows.{has_op, has_type}
+use Rattle.kt_grammar.specs.Rows as rows
+use Rattle.kt_grammar.specs.TypesBuilt as types_built
+use Rattle.kt_grammar.proofs.Advances.{halts_first, halts_after}
+use Rattle.kt_grammar.proofs.OperandRows.{from_near}
+use Rattle.kt_grammar.proofs.TypeRows.{has_op, has_type}
 use Rattle.kt_bodies.proofs.TryRows.{has_variable_close, has_colon_type, caught_from, before_close}
 use Rattle.kt_bodies.proofs.tries.caught.Goals as goal
 

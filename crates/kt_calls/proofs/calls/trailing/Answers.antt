@@ -1,6 +1,6 @@
 use Rattle.std.proofs.lemmas.Result.{err_from_is_err_and}
-use Rattle.kt_parser.specs.Parsed.{halt_memory}
-use Rattle.kt_parser.proofs.Advances.{halts_row, halts_second}
+use Rattle.kt_grammar.specs.Parsed.{halt_memory}
+use Rattle.kt_grammar.proofs.Advances.{halts_row, halts_second}
 use Rattle.kt_calls.proofs.CallRows.{trailing_from}
 use Rattle.kt_calls.proofs.calls.trailing.Goals as goal
 

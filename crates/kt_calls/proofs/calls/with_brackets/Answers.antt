@@ -1,5 +1,5 @@
 use Rattle.std.proofs.lemmas.Result.{err_from_is_err_and}
-use Rattle.kt_parser.proofs.Advances.{halts_first}
+use Rattle.kt_grammar.proofs.Advances.{halts_first}
 use Rattle.kt_calls.proofs.CallRows.{has_maybe_on_line, brackets_from}
 use Rattle.kt_calls.proofs.calls.with_brackets.Goals as goal
 

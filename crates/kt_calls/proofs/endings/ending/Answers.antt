@@ -1,7 +1,7 @@
 use Rattle.std.proofs.Common.{refl, sym, ◌∙◌}
-use Rattle.kt_parser.specs.Tokens.{is_postfix, unmarked}
+use Rattle.kt_grammar.specs.Tokens.{is_postfix, unmarked}
 use Rattle.kt_calls.specs.Suffixes.{postfix_operator, operator_of, member_or_more, member_or_more_of, ending_of}
-use Rattle.kt_parser.proofs.Advances.{chosen_first, chosen_second}
+use Rattle.kt_grammar.proofs.Advances.{chosen_first, chosen_second}
 use Rattle.kt_calls.proofs.endings.ending.Goals as goal
 
 pub returns-then-is_mark_at : goal.returns-then-is_mark_at

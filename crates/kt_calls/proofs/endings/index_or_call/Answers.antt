@@ -1,8 +1,8 @@
 use Rattle.std.proofs.Common.{refl, sym, ◌∙◌}
 use Rattle.kt_lexer.specs.declared.token.Operator.TheVariants as operator
-use Rattle.kt_parser.specs.Tokens.{is_op, unmarked}
+use Rattle.kt_grammar.specs.Tokens.{is_op, unmarked}
 use Rattle.kt_calls.specs.Suffixes.{index, index_of, any_call, any_call_of, index_or_call_of}
-use Rattle.kt_parser.proofs.Advances.{chosen_first, chosen_second}
+use Rattle.kt_grammar.proofs.Advances.{chosen_first, chosen_second}
 use Rattle.kt_calls.proofs.endings.index_or_call.Goals as goal
 
 pub returns-then-is_mark_at : goal.returns-then-is_mark_at

@@ -1,6 +1,6 @@
 use Rattle.std.proofs.lemmas.Result.{err_from_is_err_and}
-use Rattle.kt_parser.proofs.Advances.{halts_first, halts_after}
-use Rattle.kt_parser.proofs.TypeRows.{has_name}
+use Rattle.kt_grammar.proofs.Advances.{halts_first, halts_after}
+use Rattle.kt_grammar.proofs.TypeRows.{has_name}
 use Rattle.kt_calls.proofs.SuffixRows.{member_from}
 use Rattle.kt_calls.proofs.endings.member.Goals as goal
 

@@ -1,7 +1,7 @@
 use Rattle.std.proofs.Common.{refl, sym, ◌∙◌}
-use Rattle.kt_parser.specs.Tokens.{is_dot}
+use Rattle.kt_grammar.specs.Tokens.{is_dot}
 use Rattle.kt_calls.specs.Suffixes.{member, member_of, index_or_call, index_or_call_of, member_or_more_of}
-use Rattle.kt_parser.proofs.Advances.{chosen_first, chosen_second}
+use Rattle.kt_grammar.proofs.Advances.{chosen_first, chosen_second}
 use Rattle.kt_calls.proofs.endings.member_or_more.Goals as goal
 
 pub returns-then-is_mark_at : goal.returns-then-is_mark_at

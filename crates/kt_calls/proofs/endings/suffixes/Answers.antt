@@ -1,7 +1,7 @@
 use Rattle.std.proofs.lemmas.Result.{err_from_is_err_and}
 use Rattle.std.proofs.Common.{Err, Ok, refl, arith}
-use Rattle.kt_parser.specs.Parsed.{halt_memory}
-use Rattle.kt_parser.proofs.Progress.{goes_on}
+use Rattle.kt_grammar.specs.Parsed.{halt_memory}
+use Rattle.kt_grammar.proofs.Progress.{goes_on}
 use Rattle.kt_bodies.proofs.Looking.{looked_so, halts_looked_turn}
 use Rattle.kt_calls.proofs.SuffixRows.{suffixes_turn, suffixes_end}
 use Rattle.kt_calls.proofs.endings.suffixes.Goals as goal

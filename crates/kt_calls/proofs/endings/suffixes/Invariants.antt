@@ -1,7 +1,7 @@
 use Rattle.std.proofs.Common.{◌-◌, length}
 use Rattle.kt_calls.specs.Suffixes.{suffixes}
-use Rattle.kt_parser.specs.Built as built
-use Rattle.kt_parser.specs.Parsed.{ResumesOn}
+use Rattle.kt_grammar.specs.Built as built
+use Rattle.kt_grammar.specs.Parsed.{ResumesOn}
 use Rattle.kt_calls.proofs.endings.suffixes.Given as goal
 
 abbrev pub invariant-loop-left : goal.invariant-loop-left

@@ -1,9 +1,9 @@
 use Rattle.std.proofs.lemmas.Result.{err_from_is_err_and}
 use Rattle.grammars.specs.Grammar.{row}
-use Rattle.kt_parser.specs.Rows as rows
-use Rattle.kt_parser.specs.TypesBuilt as types_built
-use Rattle.kt_parser.proofs.Advances.{halts_first}
-use Rattle.kt_parser.proofs.OperandRows.{from_near}
+use Rattle.kt_grammar.specs.Rows as rows
+use Rattle.kt_grammar.specs.TypesBuilt as types_built
+use Rattle.kt_grammar.proofs.Advances.{halts_first}
+use Rattle.kt_grammar.proofs.OperandRows.{from_near}
 use Rattle.kt_calls.proofs.SuffixRows.{has_call, typed_from}
 use Rattle.kt_calls.proofs.endings.typed_call.Goals as goal
 

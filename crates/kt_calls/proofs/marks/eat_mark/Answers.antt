@@ -1,5 +1,5 @@
 use Rattle.kt_calls.specs.Marks.{is_mark}
-use Rattle.kt_parser.proofs.SignRows.{takes_token}
+use Rattle.kt_grammar.proofs.SignRows.{takes_token}
 use Rattle.kt_calls.proofs.marks.eat_mark.Goals as goal
 
 pub returns-in-Some : goal.returns-in-Some

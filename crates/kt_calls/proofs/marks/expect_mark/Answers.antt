@@ -1,4 +1,4 @@
-use Rattle.kt_parser.proofs.Advances.{not_one}
+use Rattle.kt_grammar.proofs.Advances.{not_one}
 use Rattle.kt_calls.proofs.MarkRows.{sample, is_sample}
 use Rattle.kt_calls.proofs.marks.expect_mark.Goals as goal
 

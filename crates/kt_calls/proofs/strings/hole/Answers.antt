@@ -1,5 +1,5 @@
 use Rattle.std.proofs.lemmas.Result.{err_from_is_err_and}
-use Rattle.kt_parser.proofs.Advances.{halts_first, halts_second, halts_after}
+use Rattle.kt_grammar.proofs.Advances.{halts_first, halts_second, halts_after}
 use Rattle.kt_calls.proofs.StringRows.{has_in_hole, has_hole_close, hole_from}
 use Rattle.kt_calls.proofs.strings.hole.Goals as goal
 

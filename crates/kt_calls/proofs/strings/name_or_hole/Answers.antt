@@ -1,7 +1,7 @@
 use Rattle.std.proofs.Common.{refl, sym, ◌∙◌}
-use Rattle.kt_parser.specs.Tokens.{is_string_name}
+use Rattle.kt_grammar.specs.Tokens.{is_string_name}
 use Rattle.kt_calls.specs.Strings.{name_piece, name_piece_of, hole, hole_of, name_or_hole_of}
-use Rattle.kt_parser.proofs.Advances.{chosen_first, chosen_second}
+use Rattle.kt_grammar.proofs.Advances.{chosen_first, chosen_second}
 use Rattle.kt_calls.proofs.strings.name_or_hole.Goals as goal
 
 pub returns-then-is_mark_at : goal.returns-then-is_mark_at

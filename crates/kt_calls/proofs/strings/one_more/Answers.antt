@@ -1,5 +1,5 @@
 use Rattle.std.proofs.lemmas.Result.{err_from_is_err_and}
-use Rattle.kt_parser.specs.Parsed.{halt_memory}
+use Rattle.kt_grammar.specs.Parsed.{halt_memory}
 use Rattle.kt_calls.proofs.StringRows.{one_piece_more}
 use Rattle.kt_calls.proofs.strings.one_more.Goals as goal
 

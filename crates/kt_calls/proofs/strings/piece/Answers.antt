@@ -1,7 +1,7 @@
 use Rattle.std.proofs.Common.{refl, sym, ◌∙◌}
-use Rattle.kt_parser.specs.Tokens.{is_string_text}
+use Rattle.kt_grammar.specs.Tokens.{is_string_text}
 use Rattle.kt_calls.specs.Strings.{text_piece, text_piece_of, name_or_hole, name_or_hole_of, any_piece_of}
-use Rattle.kt_parser.proofs.Advances.{chosen_first, chosen_second}
+use Rattle.kt_grammar.proofs.Advances.{chosen_first, chosen_second}
 use Rattle.kt_calls.proofs.strings.piece.Goals as goal
 
 pub returns-then-is_mark_at : goal.returns-then-is_mark_at

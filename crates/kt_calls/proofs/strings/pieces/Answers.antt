@@ -1,7 +1,7 @@
 use Rattle.std.proofs.Common.{Err, Ok, refl, sym, ◌∙◌, arith}
 use Rattle.std.proofs.lemmas.Result.{err_from_is_err_and}
-use Rattle.kt_parser.proofs.Advances.{halts_turn}
-use Rattle.kt_parser.proofs.Progress.{goes_on}
+use Rattle.kt_grammar.proofs.Advances.{halts_turn}
+use Rattle.kt_grammar.proofs.Progress.{goes_on}
 use Rattle.kt_calls.proofs.StringRows.{pieces_turn, pieces_end}
 use Rattle.kt_calls.proofs.strings.pieces.Goals as goal
 

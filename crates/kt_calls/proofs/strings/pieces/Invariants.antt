@@ -1,7 +1,7 @@
 use Rattle.std.proofs.Common.{◌++◌, ◌-◌, length}
 use Rattle.kt_calls.specs.Strings.{all_pieces}
-use Rattle.kt_parser.specs.Built as built
-use Rattle.kt_parser.specs.Parsed.{ResumesOn}
+use Rattle.kt_grammar.specs.Built as built
+use Rattle.kt_grammar.specs.Parsed.{ResumesOn}
 use Rattle.kt_calls.proofs.strings.pieces.Given as goal
 
 abbrev pub invariant-loop-all : goal.invariant-loop-all

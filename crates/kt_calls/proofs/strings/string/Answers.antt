@@ -1,5 +1,5 @@
 use Rattle.std.proofs.lemmas.Result.{err_from_is_err_and}
-use Rattle.kt_parser.proofs.Advances.{halts_row, halts_first, halts_second, halts_after}
+use Rattle.kt_grammar.proofs.Advances.{halts_row, halts_first, halts_second, halts_after}
 use Rattle.kt_calls.proofs.StringRows.{has_in_string, has_string_close, string_from}
 use Rattle.kt_calls.proofs.strings.string.Goals as goal
 

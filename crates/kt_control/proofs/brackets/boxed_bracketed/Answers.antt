@@ -1,5 +1,5 @@
 use Rattle.std.proofs.lemmas.Result.{err_from_is_err_and}
-use Rattle.kt_parser.specs.Parsed.{halt_memory}
+use Rattle.kt_grammar.specs.Parsed.{halt_memory}
 use Rattle.kt_control.proofs.TokenMoves.{same_value}
 use Rattle.kt_control.proofs.brackets.boxed_bracketed.Goals as goal
 

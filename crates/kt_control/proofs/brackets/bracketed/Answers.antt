@@ -1,7 +1,7 @@
 use Rattle.std.proofs.lemmas.Result.{err_from_is_err_and}
 use Rattle.kt_lexer.specs.declared.token.Operator.TheVariants as operator
-use Rattle.kt_parser.proofs.Advances.{halts_first, halts_second, halts_after}
-use Rattle.kt_parser.proofs.TypeRows.{has_op}
+use Rattle.kt_grammar.proofs.Advances.{halts_first, halts_second, halts_after}
+use Rattle.kt_grammar.proofs.TypeRows.{has_op}
 use Rattle.kt_control.proofs.ConditionalRows.{has_expression_close, bracketed_from}
 use Rattle.kt_control.proofs.brackets.bracketed.Goals as goal
 

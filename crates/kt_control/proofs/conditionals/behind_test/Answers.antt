@@ -1,5 +1,5 @@
 use Rattle.std.proofs.lemmas.Result.{err_from_is_err_and}
-use Rattle.kt_parser.proofs.Advances.{halts_first, halts_second}
+use Rattle.kt_grammar.proofs.Advances.{halts_first, halts_second}
 use Rattle.kt_control.proofs.ConditionalRows.{has_no_else, arms_from}
 use Rattle.kt_control.proofs.conditionals.behind_test.Goals as goal
 

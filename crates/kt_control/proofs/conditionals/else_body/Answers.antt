@@ -1,6 +1,6 @@
 use Rattle.std.proofs.Common.{arith}
 use Rattle.std.proofs.lemmas.Result.{err_from_is_err_and}
-use Rattle.kt_parser.proofs.Advances.{halts_first, halts_second, halts_after}
+use Rattle.kt_grammar.proofs.Advances.{halts_first, halts_second, halts_after}
 use Rattle.kt_bodies.proofs.StatementRows.{has_statement}
 use Rattle.kt_control.proofs.ConditionalRows.{else_from}
 use Rattle.kt_control.proofs.conditionals.else_body.Goals as goal

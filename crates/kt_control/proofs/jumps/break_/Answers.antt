@@ -1,6 +1,6 @@
 use Rattle.std.proofs.lemmas.Result.{err_from_is_err_and}
-use Rattle.kt_parser.specs.Tokens.{is_label_use}
-use Rattle.kt_parser.proofs.Advances.{halts_first}
+use Rattle.kt_grammar.specs.Tokens.{is_label_use}
+use Rattle.kt_grammar.proofs.Advances.{halts_first}
 use Rattle.kt_control.proofs.JumpRows.{break_from}
 use Rattle.kt_control.proofs.TokenMoves.{has_label}
 use Rattle.kt_control.proofs.jumps.break_.Goals as goal

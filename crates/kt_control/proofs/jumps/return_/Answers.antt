@@ -1,6 +1,6 @@
 use Rattle.std.proofs.Common.{sym, ◌∙◌}
 use Rattle.std.proofs.lemmas.Result.{err_from_is_err_and}
-use Rattle.kt_parser.proofs.Advances.{halts_first}
+use Rattle.kt_grammar.proofs.Advances.{halts_first}
 use Rattle.kt_control.proofs.JumpRows.{has_behind_return, return_with, return_bare}
 use Rattle.kt_control.proofs.jumps.return_.Goals as goal
 

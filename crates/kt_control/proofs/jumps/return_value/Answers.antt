@@ -1,7 +1,7 @@
 use Rattle.std.proofs.Common.{drop}
 use Rattle.std.proofs.lemmas.Result.{err_from_is_err_and}
 use Rattle.grammars.specs.Grammar.{first}
-use Rattle.kt_parser.specs.Parsed.{halt_memory}
+use Rattle.kt_grammar.specs.Parsed.{halt_memory}
 use Rattle.kt_control.proofs.JumpRows.{return_value_from}
 use Rattle.kt_control.proofs.jumps.return_value.Goals as goal
 

@@ -1,8 +1,8 @@
 use Rattle.std.proofs.lemmas.Result.{err_from_is_err_and}
-use Rattle.kt_parser.specs.Parsed.{halt_memory}
-use Rattle.kt_parser.proofs.Advances.{halts_first, halts_after}
+use Rattle.kt_grammar.specs.Parsed.{halt_memory}
+use Rattle.kt_grammar.proofs.Advances.{halts_first, halts_after}
 use Rattle.kt_control.proofs.JumpRows.{throw_from}
-use Rattle.kt_parser.proofs.OperatorRows.{has_expression}
+use Rattle.kt_grammar.proofs.OperatorRows.{has_expression}
 use Rattle.kt_control.proofs.jumps.throw_.Goals as goal
 
 pub returns-in_err-next : goal.returns-in_err-next

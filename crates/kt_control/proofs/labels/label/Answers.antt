@@ -1,4 +1,4 @@
-use Rattle.kt_parser.specs.Tokens.{is_label}
+use Rattle.kt_grammar.specs.Tokens.{is_label}
 use Rattle.kt_control.proofs.TokenMoves.{labelled, unlabelled}
 use Rattle.kt_control.proofs.labels.label.Goals as goal
 

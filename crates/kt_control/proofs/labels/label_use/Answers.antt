@@ -1,4 +1,4 @@
-use Rattle.kt_parser.specs.Tokens.{is_label_use}
+use Rattle.kt_grammar.specs.Tokens.{is_label_use}
 use Rattle.kt_control.proofs.TokenMoves.{labelled, unlabelled}
 use Rattle.kt_control.proofs.labels.label_use.Goals as goal
 

@@ -1,5 +1,5 @@
 use Rattle.std.proofs.lemmas.Result.{err_from_is_err_and}
-use Rattle.kt_parser.proofs.Advances.{halts_first}
+use Rattle.kt_grammar.proofs.Advances.{halts_first}
 use Rattle.kt_control.proofs.LocalRows.{has_value, in_round_from}
 use Rattle.kt_control.proofs.locals.in_round.Goals as goal
 

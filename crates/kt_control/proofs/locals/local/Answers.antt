@@ -1,5 +1,5 @@
 use Rattle.std.proofs.lemmas.Result.{err_from_is_err_and}
-use Rattle.kt_parser.proofs.Advances.{halts_row, halts_first, halts_after}
+use Rattle.kt_grammar.proofs.Advances.{halts_row, halts_first, halts_after}
 use Rattle.kt_control.proofs.LocalRows.{has_behind_word, local_from}
 use Rattle.kt_control.proofs.locals.local.Goals as goal
 

@@ -1,11 +1,11 @@
 use Rattle.std.proofs.Common.{◌++◌}
 use Rattle.std.proofs.lemmas.Result.{err_from_is_err_and}
 use Rattle.grammars.specs.Grammar.{row}
-use Rattle.kt_parser.specs.Built as built
-use Rattle.kt_parser.specs.Rows as rows
-use Rattle.kt_parser.proofs.Advances.{halts_left, halts_after}
-use Rattle.kt_parser.proofs.OperandRows.{from_near}
-use Rattle.kt_parser.proofs.Steps.{standing}
+use Rattle.kt_grammar.specs.Built as built
+use Rattle.kt_grammar.specs.Rows as rows
+use Rattle.kt_grammar.proofs.Advances.{halts_left, halts_after}
+use Rattle.kt_grammar.proofs.OperandRows.{from_near}
+use Rattle.kt_grammar.proofs.Steps.{standing}
 use Rattle.kt_control.proofs.LocalRows.{no_more, more_from}
 use Rattle.kt_control.proofs.locals.more_names.Goals as goal
 

@@ -1,7 +1,7 @@
 use Rattle.std.proofs.Common.{sym, ◌∙◌}
 use Rattle.std.proofs.lemmas.Result.{err_from_is_err_and}
-use Rattle.kt_parser.specs.Parsed.{halt_memory}
-use Rattle.kt_parser.proofs.Advances.{halts_first}
+use Rattle.kt_grammar.specs.Parsed.{halt_memory}
+use Rattle.kt_grammar.proofs.Advances.{halts_first}
 use Rattle.kt_control.proofs.LocalRows.{has_behind_name, name_typed, name_valued}
 use Rattle.kt_control.proofs.locals.one_name.Goals as goal
 

@@ -1,12 +1,12 @@
 use Rattle.std.proofs.Common.{◌++◌}
 use Rattle.std.proofs.lemmas.Result.{err_from_is_err_and}
 use Rattle.grammars.specs.Grammar.{row}
-use Rattle.kt_parser.specs.Built as built
-use Rattle.kt_parser.specs.Parsed.{halt_memory}
-use Rattle.kt_parser.specs.Rows as rows
-use Rattle.kt_parser.proofs.Advances.{halts_first, halts_after}
-use Rattle.kt_parser.proofs.NameRows.{has_bare_end}
-use Rattle.kt_parser.proofs.OperandRows.{from_near}
+use Rattle.kt_grammar.specs.Built as built
+use Rattle.kt_grammar.specs.Parsed.{halt_memory}
+use Rattle.kt_grammar.specs.Rows as rows
+use Rattle.kt_grammar.proofs.Advances.{halts_first, halts_after}
+use Rattle.kt_grammar.proofs.NameRows.{has_bare_end}
+use Rattle.kt_grammar.proofs.OperandRows.{from_near}
 use Rattle.kt_control.proofs.LoopRows.{bare_from}
 use Rattle.kt_control.proofs.loops.bare_inside.Goals as goal
 

@@ -1,5 +1,5 @@
 use Rattle.std.proofs.lemmas.Result.{err_from_is_err_and}
-use Rattle.kt_parser.proofs.Advances.{halts_first, halts_second, halts_after}
+use Rattle.kt_grammar.proofs.Advances.{halts_first, halts_second, halts_after}
 use Rattle.kt_control.proofs.LoopRows.{has_close, has_inside_close, head_closed}
 use Rattle.kt_control.proofs.loops.head_at.Goals as goal
 

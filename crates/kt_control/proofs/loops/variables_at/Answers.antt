@@ -1,10 +1,10 @@
 use Rattle.std.proofs.Common.{◌++◌, sym, ◌∙◌}
 use Rattle.std.proofs.lemmas.Result.{err_from_is_err_and}
 use Rattle.grammars.specs.Grammar.{row}
-use Rattle.kt_parser.specs.Built as built
-use Rattle.kt_parser.specs.Rows as rows
-use Rattle.kt_parser.proofs.Advances.{halts_right}
-use Rattle.kt_parser.proofs.OperandRows.{from_near}
+use Rattle.kt_grammar.specs.Built as built
+use Rattle.kt_grammar.specs.Rows as rows
+use Rattle.kt_grammar.proofs.Advances.{halts_right}
+use Rattle.kt_grammar.proofs.OperandRows.{from_near}
 use Rattle.kt_control.proofs.LoopRows.{variables_round, variables_one}
 use Rattle.kt_control.proofs.loops.variables_at.Goals as goal
 

@@ -1,5 +1,5 @@
 use Rattle.std.proofs.lemmas.Result.{err_from_is_err_and}
-use Rattle.kt_parser.proofs.Advances.{halts_first, halts_after}
+use Rattle.kt_grammar.proofs.Advances.{halts_first, halts_after}
 use Rattle.kt_control.proofs.ConditionalRows.{has_bracketed}
 use Rattle.kt_control.proofs.LoopRows.{test_from}
 use Rattle.kt_control.proofs.loops.while_test.Goals as goal

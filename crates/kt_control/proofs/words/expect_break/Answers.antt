@@ -1,8 +1,8 @@
 use Rattle.std.proofs.Common.{refl, sym, ◌∙◌}
 use Rattle.kt_lexer.specs.declared.token.Keyword.TheVariants as keyword
-use Rattle.kt_parser.specs.Tokens.{is_break}
-use Rattle.kt_parser.proofs.Advances.{not_one}
-use Rattle.kt_parser.proofs.SingleTokens.{word_token}
+use Rattle.kt_grammar.specs.Tokens.{is_break}
+use Rattle.kt_grammar.proofs.Advances.{not_one}
+use Rattle.kt_grammar.proofs.SingleTokens.{word_token}
 use Rattle.kt_control.proofs.TokenMoves.{moved_one}
 use Rattle.kt_control.proofs.words.expect_break.Goals as goal
 

@@ -1,8 +1,8 @@
 use Rattle.std.proofs.Common.{sym, ◌∙◌, ◌+◌, drop}
 use Rattle.grammars.specs.Grammar.{first}
-use Rattle.kt_parser.specs.Parsed.{halt_memory}
+use Rattle.kt_grammar.specs.Parsed.{halt_memory}
 use Rattle.kt_decls.proofs.LoneNames.{closing, none_begins, name_alone}
-use Rattle.kt_parser.proofs.SingleTokens.{takes_name}
+use Rattle.kt_grammar.proofs.SingleTokens.{takes_name}
 use Rattle.kt_decls.proofs.list_tests.lone_name.Goals as goal
 
 pub returns-then-not-goes_on : goal.returns-then-not-goes_on

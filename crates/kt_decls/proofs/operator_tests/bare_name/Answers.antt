@@ -1,9 +1,9 @@
 use Rattle.std.proofs.Common.{sym, ◌∙◌, drop}
 use Rattle.grammars.specs.Grammar.{first}
 use Rattle.std.proofs.lemmas.Result.{err_from_is_err_and}
-use Rattle.kt_parser.specs.Parsed.{halt_memory}
+use Rattle.kt_grammar.specs.Parsed.{halt_memory}
 use Rattle.kt_decls.proofs.LoneNames.{closing, no_postfix, bare_name}
-use Rattle.kt_parser.proofs.SingleTokens.{takes_name}
+use Rattle.kt_grammar.proofs.SingleTokens.{takes_name}
 use Rattle.kt_decls.proofs.operator_tests.bare_name.Goals as goal
 
 pub returns-then-not-goes_on : goal.returns-then-not-goes_on

@@ -1,5 +1,5 @@
 use Rattle.std.proofs.lemmas.Result.{err_from_is_err_and}
-use Rattle.kt_parser.proofs.Advances.{halts_first, halts_second}
+use Rattle.kt_grammar.proofs.Advances.{halts_first, halts_second}
 use Rattle.kt_functions.proofs.FunctionRows.{has_ending, signature_from}
 use Rattle.kt_functions.proofs.functions.behind_name.Goals as goal
 

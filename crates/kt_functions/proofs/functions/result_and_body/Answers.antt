@@ -1,8 +1,8 @@
 use Rattle.std.proofs.lemmas.Result.{err_from_is_err_and}
-use Rattle.kt_parser.specs.Built.{written_type}
-use Rattle.kt_parser.specs.Rows as rows
-use Rattle.kt_parser.proofs.Advances.{halts_first, halts_second}
-use Rattle.kt_parser.proofs.OperandRows.{from_near}
+use Rattle.kt_grammar.specs.Built.{written_type}
+use Rattle.kt_grammar.specs.Rows as rows
+use Rattle.kt_grammar.proofs.Advances.{halts_first, halts_second}
+use Rattle.kt_grammar.proofs.OperandRows.{from_near}
 use Rattle.kt_functions.proofs.FunctionRows.{ending_from}
 use Rattle.kt_functions.proofs.ValueRows.{has_written_body}
 use Rattle.kt_functions.proofs.functions.result_and_body.Goals as goal

@@ -1,6 +1,6 @@
 use Rattle.std.proofs.Common.{sym, ◌∙◌}
-use Rattle.kt_parser.specs.Tokens.{is_modifier_name}
-use Rattle.kt_parser.proofs.Steps.{takes_one}
+use Rattle.kt_grammar.specs.Tokens.{is_modifier_name}
+use Rattle.kt_grammar.proofs.Steps.{takes_one}
 use Rattle.kt_functions.proofs.modifier_words.eat_modifier_name.Goals as goal
 
 pub returns-then-is_modifier_name_at : goal.returns-then-is_modifier_name_at

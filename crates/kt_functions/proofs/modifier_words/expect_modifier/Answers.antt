@@ -1,7 +1,7 @@
 use Rattle.std.proofs.Common.{refl}
 use Rattle.kt_lexer.specs.declared.token.Keyword.TheVariants as keyword
-use Rattle.kt_parser.proofs.Advances.{not_one}
-use Rattle.kt_parser.proofs.SingleTokens.{word_token}
+use Rattle.kt_grammar.proofs.Advances.{not_one}
+use Rattle.kt_grammar.proofs.SingleTokens.{word_token}
 use Rattle.kt_functions.proofs.ModifierRows.{modifier_moved}
 use Rattle.kt_functions.proofs.modifier_words.expect_modifier.Goals as goal
 

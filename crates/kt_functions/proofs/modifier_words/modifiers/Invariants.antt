@@ -1,7 +1,7 @@
 use Rattle.std.proofs.Common.{[], ◌++◌, ◌-◌, length}
-use Rattle.kt_parser.specs.DeclarationsBuilt as built
-use Rattle.kt_parser.specs.Parsed.{ResumesOn}
-use Rattle.kt_parser.specs.Rows as rows
+use Rattle.kt_grammar.specs.DeclarationsBuilt as built
+use Rattle.kt_grammar.specs.Parsed.{ResumesOn}
+use Rattle.kt_grammar.specs.Rows as rows
 use Rattle.kt_functions.proofs.modifier_words.modifiers.Given as goal
 
 abbrev pub invariant-loop-all : goal.invariant-loop-all

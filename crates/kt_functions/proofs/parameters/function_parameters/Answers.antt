@@ -1,6 +1,6 @@
 use Rattle.std.proofs.Common.{Err, Ok, arith, sym, ◌∙◌}
 use Rattle.std.proofs.lemmas.Result.{err_from_is_err_and}
-use Rattle.kt_parser.proofs.ListRows.{list_end, list_last, list_more, list_halts}
+use Rattle.kt_grammar.proofs.ListRows.{list_end, list_last, list_more, list_halts}
 use Rattle.kt_functions.proofs.ParameterRows.{parameters_list}
 use Rattle.kt_functions.proofs.parameters.function_parameters.Goals as goal
 

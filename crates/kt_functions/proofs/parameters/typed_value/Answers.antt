@@ -1,9 +1,9 @@
 use Rattle.std.proofs.lemmas.Result.{err_from_is_err_and}
 use Rattle.grammars.specs.Grammar.{row}
-use Rattle.kt_parser.specs.Rows as rows
-use Rattle.kt_parser.specs.TypesBuilt.{type_of}
-use Rattle.kt_parser.proofs.Advances.{halts_first, halts_second}
-use Rattle.kt_parser.proofs.OperandRows.{from_near}
+use Rattle.kt_grammar.specs.Rows as rows
+use Rattle.kt_grammar.specs.TypesBuilt.{type_of}
+use Rattle.kt_grammar.proofs.Advances.{halts_first, halts_second}
+use Rattle.kt_grammar.proofs.OperandRows.{from_near}
 use Rattle.kt_functions.proofs.ParameterRows.{typed_value_from}
 use Rattle.kt_functions.proofs.ValueRows.{has_default}
 use Rattle.kt_functions.proofs.parameters.typed_value.Goals as goal

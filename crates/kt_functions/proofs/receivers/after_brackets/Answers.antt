@@ -1,6 +1,6 @@
 use Rattle.std.proofs.lemmas.Result.{err_from_is_err_and}
-use Rattle.kt_parser.proofs.Advances.{halts_first, halts_second, halts_after}
-use Rattle.kt_parser.proofs.TypeRows.{has_name}
+use Rattle.kt_grammar.proofs.Advances.{halts_first, halts_second, halts_after}
+use Rattle.kt_grammar.proofs.TypeRows.{has_name}
 use Rattle.kt_functions.proofs.ReceiverRows.{has_dotted, after_brackets_from}
 use Rattle.kt_functions.proofs.receivers.after_brackets.Goals as goal
 

@@ -1,10 +1,10 @@
 use Rattle.std.proofs.Common.{drop}
 use Rattle.std.proofs.lemmas.Result.{err_from_is_err_and}
 use Rattle.grammars.specs.Grammar.{first}
-use Rattle.kt_parser.specs.Rows.{question_marks}
-use Rattle.kt_parser.specs.TypesBuilt.{nullables}
-use Rattle.kt_parser.proofs.Advances.{halts_first}
-use Rattle.kt_parser.proofs.OperandRows.{from_near}
+use Rattle.kt_grammar.specs.Rows.{question_marks}
+use Rattle.kt_grammar.specs.TypesBuilt.{nullables}
+use Rattle.kt_grammar.proofs.Advances.{halts_first}
+use Rattle.kt_grammar.proofs.OperandRows.{from_near}
 use Rattle.kt_functions.proofs.ReceiverRows.{has_dot_name, after_marks}
 use Rattle.kt_functions.proofs.receivers.behind_arguments.Goals as goal
 

@@ -1,8 +1,8 @@
 use Rattle.std.proofs.Common.{drop}
 use Rattle.std.proofs.lemmas.Result.{err_from_is_err_and}
 use Rattle.grammars.specs.Grammar.{first}
-use Rattle.kt_parser.proofs.Advances.{halts_first}
-use Rattle.kt_parser.proofs.OperandRows.{from_near}
+use Rattle.kt_grammar.proofs.Advances.{halts_first}
+use Rattle.kt_grammar.proofs.OperandRows.{from_near}
 use Rattle.kt_functions.specs.Receivers.{type_arguments, type_with}
 use Rattle.kt_functions.proofs.ReceiverRows.{has_behind_arguments, after_arguments}
 use Rattle.kt_functions.proofs.receivers.behind_name.Goals as goal

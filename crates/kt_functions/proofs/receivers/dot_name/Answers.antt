@@ -2,10 +2,10 @@ use Rattle.std.proofs.Common.{refl, drop}
 use Rattle.std.proofs.lemmas.Result.{err_from_is_err_and}
 use Rattle.grammars.specs.Grammar.{first}
 use Rattle.kt_lexer.specs.declared.token.Operator.TheVariants as operator
-use Rattle.kt_parser.specs.Parsed.{halt_memory}
-use Rattle.kt_parser.proofs.Advances.{halts_first, halts_after, not_one}
-use Rattle.kt_parser.proofs.SingleTokens.{op_token}
-use Rattle.kt_parser.proofs.TypeRows.{has_name}
+use Rattle.kt_grammar.specs.Parsed.{halt_memory}
+use Rattle.kt_grammar.proofs.Advances.{halts_first, halts_after, not_one}
+use Rattle.kt_grammar.proofs.SingleTokens.{op_token}
+use Rattle.kt_grammar.proofs.TypeRows.{has_name}
 use Rattle.kt_functions.proofs.ReceiverRows.{dot_from}
 use Rattle.kt_functions.proofs.receivers.dot_name.Goals as goal
 

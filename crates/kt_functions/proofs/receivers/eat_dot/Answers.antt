@@ -1,5 +1,5 @@
-use Rattle.kt_parser.proofs.SignRows.{takes_token}
-use Rattle.kt_parser.specs.Tokens.{is_dot}
+use Rattle.kt_grammar.proofs.SignRows.{takes_token}
+use Rattle.kt_grammar.specs.Tokens.{is_dot}
 use Rattle.kt_functions.proofs.receivers.eat_dot.Goals as goal
 
 pub returns-in-Some : goal.returns-in-Some

@@ -1,5 +1,5 @@
 use Rattle.std.proofs.lemmas.Result.{err_from_is_err_and}
-use Rattle.kt_parser.proofs.Advances.{halts_first}
+use Rattle.kt_grammar.proofs.Advances.{halts_first}
 use Rattle.kt_functions.proofs.ReceiverRows.{has_maybe_receiver, after_name}
 use Rattle.kt_functions.proofs.receivers.from_name.Goals as goal
 

@@ -1,7 +1,7 @@
 use Rattle.std.proofs.Common.{sym, ◌∙◌}
 use Rattle.std.proofs.lemmas.Result.{err_from_is_err_and}
-use Rattle.kt_parser.specs.Parsed.{no_memory}
-use Rattle.kt_parser.proofs.Steps.{fails_left}
+use Rattle.kt_grammar.specs.Parsed.{no_memory}
+use Rattle.kt_grammar.proofs.Steps.{fails_left}
 use Rattle.grammars.specs.Grammar.{first}
 use Rattle.std.proofs.Common.{drop}
 use Rattle.kt_functions.proofs.ReceiverRows.{bare_type, type_with_arguments}

@@ -1,9 +1,9 @@
 use Rattle.std.proofs.Common.{Ok, arith}
 use Rattle.std.proofs.lemmas.Result.{err_from_is_err_and}
-use Rattle.kt_parser.specs.Parsed.{no_memory}
+use Rattle.kt_grammar.specs.Parsed.{no_memory}
 use Rattle.grammars.specs.Grammar.{first}
 use Rattle.std.proofs.Common.{drop}
-use Rattle.kt_parser.proofs.TypeRows.{mark_turn, marks_end}
+use Rattle.kt_grammar.proofs.TypeRows.{mark_turn, marks_end}
 use Rattle.kt_functions.proofs.receivers.with_marks.Goals as goal
 
 pub returns-in_err-inner : goal.returns-in_err-inner

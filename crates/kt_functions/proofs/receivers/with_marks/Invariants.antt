@@ -1,8 +1,8 @@
 use Rattle.std.proofs.Common.{length, drop, ◌-◌}
 use Rattle.grammars.specs.Grammar.{first}
-use Rattle.kt_parser.specs.Parsed.{Resumes}
-use Rattle.kt_parser.specs.Rows.{question_marks}
-use Rattle.kt_parser.specs.TypesBuilt as built
+use Rattle.kt_grammar.specs.Parsed.{Resumes}
+use Rattle.kt_grammar.specs.Rows.{question_marks}
+use Rattle.kt_grammar.specs.TypesBuilt as built
 use Rattle.kt_functions.proofs.receivers.with_marks.Given as goal
 
 abbrev pub invariant-loop-end : goal.invariant-loop-end

@@ -1,9 +1,9 @@
 use Rattle.std.proofs.lemmas.Result.{err_from_is_err_and}
-use Rattle.kt_parser.specs.Built.{written_type}
-use Rattle.kt_parser.specs.Rows as rows
-use Rattle.kt_parser.proofs.Advances.{halts_first, halts_after}
-use Rattle.kt_parser.proofs.NameRows.{has_no_type}
-use Rattle.kt_parser.proofs.OperandRows.{from_near}
+use Rattle.kt_grammar.specs.Built.{written_type}
+use Rattle.kt_grammar.specs.Rows as rows
+use Rattle.kt_grammar.proofs.Advances.{halts_first, halts_after}
+use Rattle.kt_grammar.proofs.NameRows.{has_no_type}
+use Rattle.kt_grammar.proofs.OperandRows.{from_near}
 use Rattle.kt_functions.proofs.TypeParameterRows.{named_from}
 use Rattle.kt_functions.proofs.type_parameters.named.Goals as goal
 

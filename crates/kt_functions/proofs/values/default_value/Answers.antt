@@ -1,6 +1,6 @@
 use Rattle.std.proofs.lemmas.Result.{err_from_is_err_and}
-use Rattle.kt_parser.proofs.Advances.{halts_left, halts_after}
-use Rattle.kt_parser.proofs.Steps.{standing}
+use Rattle.kt_grammar.proofs.Advances.{halts_left, halts_after}
+use Rattle.kt_grammar.proofs.Steps.{standing}
 use Rattle.kt_functions.proofs.ValueRows.{no_default, default_from}
 use Rattle.kt_functions.proofs.values.default_value.Goals as goal
 

@@ -1,5 +1,5 @@
 use Rattle.std.proofs.lemmas.Result.{err_from_is_err_and}
-use Rattle.kt_parser.proofs.Advances.{halts_row, halts_first, halts_after}
+use Rattle.kt_grammar.proofs.Advances.{halts_row, halts_first, halts_after}
 use Rattle.kt_functions.specs.Sites.{site_of}
 use Rattle.kt_members.proofs.MemberRows.{has_to_brace, in_braces}
 use Rattle.kt_members.proofs.class_members.class_body.Goals as goal

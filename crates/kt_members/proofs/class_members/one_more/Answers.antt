@@ -1,5 +1,5 @@
 use Rattle.std.proofs.lemmas.Result.{err_from_is_err_and}
-use Rattle.kt_parser.specs.Parsed.{halt_memory}
+use Rattle.kt_grammar.specs.Parsed.{halt_memory}
 use Rattle.kt_functions.specs.Sites.{site_of}
 use Rattle.kt_members.proofs.MemberRows.{member_more}
 use Rattle.kt_members.proofs.class_members.one_more.Goals as goal

@@ -1,5 +1,5 @@
 use Rattle.std.proofs.lemmas.Result.{err_from_is_err_and}
-use Rattle.kt_parser.proofs.Advances.{halts_row, halts_first}
+use Rattle.kt_grammar.proofs.Advances.{halts_row, halts_first}
 use Rattle.kt_members.proofs.GetterRows.{has_behind_head, accessors_from}
 use Rattle.kt_members.proofs.getters.accessors.Goals as goal
 

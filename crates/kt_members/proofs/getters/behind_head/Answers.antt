@@ -1,7 +1,7 @@
 use Rattle.std.proofs.Common.{drop, sym, ◌∙◌}
 use Rattle.std.proofs.lemmas.Result.{err_from_is_err_and}
 use Rattle.grammars.specs.Grammar.{first}
-use Rattle.kt_parser.proofs.Advances.{halts_left, halts_right, halts_first}
+use Rattle.kt_grammar.proofs.Advances.{halts_left, halts_right, halts_first}
 use Rattle.kt_members.proofs.GetterRows.{braces_then, value_then}
 use Rattle.kt_members.proofs.SetterRows.{has_behind_block, has_behind_value}
 use Rattle.kt_members.proofs.getters.behind_head.Goals as goal

@@ -1,6 +1,6 @@
 use Rattle.std.proofs.lemmas.Result.{err_from_is_err_and}
-use Rattle.kt_parser.specs.DeclarationsBuilt as built
-use Rattle.kt_parser.specs.Rows as rows
+use Rattle.kt_grammar.specs.DeclarationsBuilt as built
+use Rattle.kt_grammar.specs.Rows as rows
 use Rattle.kt_members.proofs.GetterRows.{with_setter}
 use Rattle.kt_members.proofs.getters.braces_and_setter.Goals as goal
 

@@ -1,7 +1,7 @@
 use Rattle.std.proofs.Common.{subst}
-use Rattle.kt_parser.proofs.Advances.{moves}
-use Rattle.kt_parser.specs.Moves.{Moved}
-use Rattle.kt_parser.specs.Tokens.{is_of}
+use Rattle.kt_grammar.proofs.Advances.{moves}
+use Rattle.kt_grammar.specs.Moves.{Moved}
+use Rattle.kt_grammar.specs.Tokens.{is_of}
 use Rattle.kt_members.proofs.member_words.eat_word.Goals as goal
 
 pub returns-in-Some : goal.returns-in-Some

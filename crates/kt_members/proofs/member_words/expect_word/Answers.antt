@@ -1,4 +1,4 @@
-use Rattle.kt_parser.proofs.Advances.{not_one}
+use Rattle.kt_grammar.proofs.Advances.{not_one}
 use Rattle.kt_members.proofs.TokenRows.{sample, is_sample}
 use Rattle.kt_members.proofs.member_words.expect_word.Goals as goal
 

@@ -1,5 +1,5 @@
 use Rattle.std.proofs.lemmas.Result.{err_from_is_err_and}
-use Rattle.kt_parser.specs.Parsed.{halt_memory}
+use Rattle.kt_grammar.specs.Parsed.{halt_memory}
 use Rattle.kt_functions.specs.Sites.{site_of}
 use Rattle.kt_members.proofs.ModifierRows.{modifies_more, modifiers_end}
 use Rattle.kt_members.proofs.modified.with_modifiers.Goals as goal

@@ -1,8 +1,8 @@
 use Rattle.std.proofs.Common.{false, sym, subst}
 use Rattle.kt_functions.specs.Sites.{site_of}
-use Rattle.kt_parser.specs.DeclarationsBuilt as built
-use Rattle.kt_parser.specs.Parsed.{Advances}
-use Rattle.kt_parser.specs.Rows as rows
+use Rattle.kt_grammar.specs.DeclarationsBuilt as built
+use Rattle.kt_grammar.specs.Parsed.{Advances}
+use Rattle.kt_grammar.specs.Rows as rows
 use Rattle.kt_members.proofs.properties.concrete_property.Goals as goal
 
 pub returns-in-InClass : goal.returns-in-InClass

@@ -1,8 +1,8 @@
 use Rattle.std.proofs.lemmas.Result.{err_from_is_err_and}
-use Rattle.kt_parser.specs.Built as built
-use Rattle.kt_parser.specs.Rows as rows
-use Rattle.kt_parser.proofs.Advances.{halts_first, halts_after}
-use Rattle.kt_parser.proofs.OperandRows.{from_near}
+use Rattle.kt_grammar.specs.Built as built
+use Rattle.kt_grammar.specs.Rows as rows
+use Rattle.kt_grammar.proofs.Advances.{halts_first, halts_after}
+use Rattle.kt_grammar.proofs.OperandRows.{from_near}
 use Rattle.kt_functions.specs.Sites.{site_of}
 use Rattle.kt_members.proofs.PropertyRows.{has_property_value, has_behind_name, has_behind_word, behind_from}
 use Rattle.kt_members.proofs.properties.property_behind.Goals as goal

@@ -1,5 +1,5 @@
 use Rattle.std.proofs.lemmas.Result.{err_from_is_err_and}
-use Rattle.kt_parser.proofs.Advances.{halts_row, halts_first, halts_second, halts_after}
+use Rattle.kt_grammar.proofs.Advances.{halts_row, halts_first, halts_second, halts_after}
 use Rattle.kt_members.proofs.SetterRows.{has_behind_set, setter_from}
 use Rattle.kt_members.proofs.TokenRows.{has_body}
 use Rattle.kt_members.proofs.setters.setter.Goals as goal

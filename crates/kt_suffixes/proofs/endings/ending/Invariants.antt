@@ -1,5 +1,5 @@
 use Rattle.std.proofs.Common.{◌≡◌, ◌-◌, false, length}
-use Rattle.kt_parser.specs.Lookahead.{is_closed}
+use Rattle.kt_grammar.specs.Lookahead.{is_closed}
 use Rattle.kt_suffixes.proofs.Runs.{Stands}
 use Rattle.kt_suffixes.proofs.endings.ending.Given as goal
 

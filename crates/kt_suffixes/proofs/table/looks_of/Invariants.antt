@@ -1,5 +1,5 @@
 use Rattle.std.proofs.Common.{◌≡◌, ℕ, ◌<◌, length, get_or}
-use Rattle.kt_parser.specs.declared.lookahead.Look.{Look}
+use Rattle.kt_grammar.specs.declared.lookahead.Look.{Look}
 use Rattle.kt_suffixes.specs.Suffixes.{suffix}
 use Rattle.kt_suffixes.proofs.table.looks_of.Given as goal
 

@@ -1,6 +1,6 @@
 use Rattle.std.proofs.lemmas.Result.{err_from_is_err_and}
 use Rattle.kt_bodies.proofs.StatementRows.{has_statement}
-use Rattle.kt_parser.proofs.Advances.{halts_first}
+use Rattle.kt_grammar.proofs.Advances.{halts_first}
 use Rattle.kt_when.proofs.BranchRows.{arrow_from}
 use Rattle.kt_when.proofs.entries.behind_head.Goals as goal
 

@@ -1,5 +1,5 @@
 use Rattle.std.proofs.lemmas.Result.{err_from_is_err_and}
-use Rattle.kt_parser.proofs.Advances.{halts_first, halts_second}
+use Rattle.kt_grammar.proofs.Advances.{halts_first, halts_second}
 use Rattle.kt_when.proofs.ConditionRows.{has_no_conditions, conditions_from}
 use Rattle.kt_when.proofs.heads.conditions.Goals as goal
 

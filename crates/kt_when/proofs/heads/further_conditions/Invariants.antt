@@ -1,8 +1,8 @@
 use Rattle.std.proofs.Common.{◌++◌, ◌-◌, length}
 use Rattle.grammars.specs.Grammar.{row}
-use Rattle.kt_parser.specs.Built as built
-use Rattle.kt_parser.specs.Parsed.{ResumesOn}
-use Rattle.kt_parser.specs.Rows as rows
+use Rattle.kt_grammar.specs.Built as built
+use Rattle.kt_grammar.specs.Parsed.{ResumesOn}
+use Rattle.kt_grammar.specs.Rows as rows
 use Rattle.kt_when.proofs.heads.further_conditions.Given as goal
 
 abbrev pub invariant-loop-next : goal.invariant-loop-next

@@ -1,5 +1,5 @@
 use Rattle.std.proofs.lemmas.Result.{err_from_is_err_and}
-use Rattle.kt_parser.specs.Parsed.{halt_memory}
+use Rattle.kt_grammar.specs.Parsed.{halt_memory}
 use Rattle.kt_when.specs.Conditions.{contained}
 use Rattle.kt_when.proofs.ConditionRows.{pushed}
 use Rattle.kt_when.proofs.heads.in_range.Goals as goal

@@ -1,6 +1,6 @@
 use Rattle.std.proofs.Common.{refl}
 use Rattle.std.proofs.lemmas.Result.{err_from_is_err_and}
-use Rattle.kt_parser.specs.Parsed.{halt_memory}
+use Rattle.kt_grammar.specs.Parsed.{halt_memory}
 use Rattle.kt_when.specs.Conditions.{value}
 use Rattle.kt_when.proofs.ConditionRows.{pushed}
 use Rattle.kt_when.proofs.heads.value.Goals as goal

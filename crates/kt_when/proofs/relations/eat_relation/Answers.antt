@@ -1,4 +1,4 @@
-use Rattle.kt_parser.proofs.SignRows.{takes_token}
+use Rattle.kt_grammar.proofs.SignRows.{takes_token}
 use Rattle.kt_when.specs.Relations.{is_relation}
 use Rattle.kt_when.proofs.relations.eat_relation.Goals as goal
 

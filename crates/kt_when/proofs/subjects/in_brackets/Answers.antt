@@ -1,6 +1,6 @@
 use Rattle.std.proofs.lemmas.Result.{err_from_is_err_and}
-use Rattle.kt_parser.proofs.Advances.{halts_first, halts_second}
-use Rattle.kt_parser.proofs.OperatorRows.{has_expression}
+use Rattle.kt_grammar.proofs.Advances.{halts_first, halts_second}
+use Rattle.kt_grammar.proofs.OperatorRows.{has_expression}
 use Rattle.kt_when.proofs.SubjectRows.{brackets_from}
 use Rattle.kt_when.proofs.subjects.in_brackets.Goals as goal
 

@@ -1,8 +1,8 @@
 use Rattle.std.proofs.lemmas.Result.{err_from_is_err_and}
 use Rattle.kt_lexer.specs.declared.token.Operator.TheVariants as operator
-use Rattle.kt_parser.proofs.Advances.{halts_left, halts_first, halts_second, halts_after}
-use Rattle.kt_parser.proofs.Steps.{standing}
-use Rattle.kt_parser.proofs.TypeRows.{has_op}
+use Rattle.kt_grammar.proofs.Advances.{halts_left, halts_first, halts_second, halts_after}
+use Rattle.kt_grammar.proofs.Steps.{standing}
+use Rattle.kt_grammar.proofs.TypeRows.{has_op}
 use Rattle.kt_when.proofs.SubjectRows.{no_subject_from, subject_from}
 use Rattle.kt_when.proofs.subjects.subject_at.Goals as goal
 

@@ -1,8 +1,8 @@
 use Rattle.std.proofs.lemmas.Result.{err_from_is_err_and}
-use Rattle.kt_parser.specs.Built as built
-use Rattle.kt_parser.specs.Rows as rows
-use Rattle.kt_parser.proofs.Advances.{halts_row, halts_first, halts_after}
-use Rattle.kt_parser.proofs.OperandRows.{from_near}
+use Rattle.kt_grammar.specs.Built as built
+use Rattle.kt_grammar.specs.Rows as rows
+use Rattle.kt_grammar.proofs.Advances.{halts_row, halts_first, halts_after}
+use Rattle.kt_grammar.proofs.OperandRows.{from_near}
 use Rattle.kt_when.proofs.SubjectRows.{has_no_type, name_from}
 use Rattle.kt_when.proofs.subjects.typed_name.Goals as goal
 

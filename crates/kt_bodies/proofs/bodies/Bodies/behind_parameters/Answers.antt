@@ -1,5 +1,5 @@
 use Rattle.std.proofs.lemmas.Result.{err_from_is_err_and}
-use Rattle.kt_parser.proofs.Advances.{halts_first, halts_after}
+use Rattle.kt_grammar.proofs.Advances.{halts_first, halts_after}
 use Rattle.kt_bodies.proofs.StatementRows.{has_to_brace}
 use Rattle.kt_bodies.proofs.LambdaRows.{arrow_from}
 use Rattle.kt_bodies.proofs.bodies.Bodies.behind_parameters.Goals as goal

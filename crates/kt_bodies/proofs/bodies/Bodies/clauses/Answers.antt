@@ -1,6 +1,6 @@
 use Rattle.std.proofs.lemmas.Result.{err_from_is_err_and}
 use Rattle.std.proofs.Common.{sym, ◌∙◌}
-use Rattle.kt_parser.proofs.Advances.{halts_right}
+use Rattle.kt_grammar.proofs.Advances.{halts_right}
 use Rattle.kt_bodies.proofs.TryRows.{clauses_catching, clauses_last}
 use Rattle.kt_bodies.proofs.bodies.Bodies.clauses.Goals as goal
 

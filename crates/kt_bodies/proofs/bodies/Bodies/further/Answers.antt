@@ -2,7 +2,7 @@ use Rattle.std.proofs.Common.{Err, Ok, refl, arith}
 use Rattle.std.proofs.lemmas.Result.{err_from_is_err_and}
 use Rattle.kt_bodies.proofs.Sequences.{follows_ahead, follows_so, sequence_end, sequence_more, turn_from, turn_halts}
 use Rattle.kt_bodies.proofs.StatementRows.{statements_list}
-use Rattle.kt_parser.proofs.Progress.{goes_on}
+use Rattle.kt_grammar.proofs.Progress.{goes_on}
 use Rattle.kt_bodies.proofs.bodies.Bodies.further.Goals as goal
 
 pub returns-then-not-goes_on : goal.returns-then-not-goes_on

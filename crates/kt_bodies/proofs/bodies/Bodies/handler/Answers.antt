@@ -1,5 +1,5 @@
 use Rattle.std.proofs.lemmas.Result.{err_from_is_err_and}
-use Rattle.kt_parser.specs.Parsed.{halt_memory}
+use Rattle.kt_grammar.specs.Parsed.{halt_memory}
 use Rattle.kt_bodies.proofs.TryRows.{handler_from}
 use Rattle.kt_bodies.proofs.bodies.Bodies.handler.Goals as goal
 

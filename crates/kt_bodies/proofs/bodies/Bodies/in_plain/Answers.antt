@@ -1,5 +1,5 @@
 use Rattle.std.proofs.lemmas.Result.{err_from_is_err_and}
-use Rattle.kt_parser.proofs.Advances.{halts_first}
+use Rattle.kt_grammar.proofs.Advances.{halts_first}
 use Rattle.kt_bodies.proofs.Looking.{looked_so, halts_looked_left, halts_looked_right}
 use Rattle.kt_bodies.proofs.LambdaRows.{has_behind_arrow, plain_without, plain_with}
 use Rattle.kt_bodies.proofs.bodies.Bodies.in_plain.Goals as goal

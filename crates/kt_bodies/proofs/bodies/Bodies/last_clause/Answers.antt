@@ -1,6 +1,6 @@
 use Rattle.std.proofs.lemmas.Result.{err_from_is_err_and}
-use Rattle.kt_parser.specs.Parsed.{halt_memory}
-use Rattle.kt_parser.proofs.Advances.{halts_first, halts_after}
+use Rattle.kt_grammar.specs.Parsed.{halt_memory}
+use Rattle.kt_grammar.proofs.Advances.{halts_first, halts_after}
 use Rattle.kt_bodies.proofs.TryRows.{has_block, last_from}
 use Rattle.kt_bodies.proofs.bodies.Bodies.last_clause.Goals as goal
 

@@ -1,6 +1,6 @@
 use Rattle.std.proofs.lemmas.Result.{err_from_is_err_and}
 use Rattle.std.proofs.Common.{Err, Ok, refl, arith}
-use Rattle.kt_parser.proofs.Progress.{goes_on}
+use Rattle.kt_grammar.proofs.Progress.{goes_on}
 use Rattle.kt_bodies.proofs.Looking.{looked_so, halts_looked_turn}
 use Rattle.kt_bodies.proofs.TryRows.{catches_turn, catches_end}
 use Rattle.kt_bodies.proofs.bodies.Bodies.more_catches.Goals as goal

@@ -1,7 +1,7 @@
 use Rattle.std.proofs.Common.{◌++◌, ◌-◌, length}
 use Rattle.kt_bodies.specs.Tries.{more_catches}
-use Rattle.kt_parser.specs.Built as built
-use Rattle.kt_parser.specs.Parsed.{ResumesOn}
+use Rattle.kt_grammar.specs.Built as built
+use Rattle.kt_grammar.specs.Parsed.{ResumesOn}
 use Rattle.kt_bodies.proofs.bodies.Bodies.more_catches.Given as goal
 
 abbrev pub invariant-loop-all : goal.invariant-loop-all

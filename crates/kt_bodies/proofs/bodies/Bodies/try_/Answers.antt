@@ -1,5 +1,5 @@
 use Rattle.std.proofs.lemmas.Result.{err_from_is_err_and}
-use Rattle.kt_parser.proofs.Advances.{halts_row, halts_first, halts_second, halts_after}
+use Rattle.kt_grammar.proofs.Advances.{halts_row, halts_first, halts_second, halts_after}
 use Rattle.kt_bodies.proofs.TryRows.{has_block_clauses, has_clauses, try_from}
 use Rattle.kt_bodies.proofs.bodies.Bodies.try_.Goals as goal
 

@@ -1,5 +1,5 @@
 use Rattle.std.proofs.lemmas.Result.{err_from_is_err_and}
-use Rattle.kt_parser.proofs.Advances.{halts_first, halts_second}
+use Rattle.kt_grammar.proofs.Advances.{halts_first, halts_second}
 use Rattle.kt_bodies.proofs.TryRows.{has_behind_catch, has_maybe_last, catching_from}
 use Rattle.kt_bodies.proofs.bodies.Bodies.with_catches.Goals as goal
 

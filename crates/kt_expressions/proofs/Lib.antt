@@ -1,2 +1,0 @@
-pub mod PrimaryRows
-pub mod StatementRows

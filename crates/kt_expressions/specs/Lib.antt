@@ -1,3 +1,0 @@
-pub mod Primaries
-pub mod Statements
-pub mod Readers

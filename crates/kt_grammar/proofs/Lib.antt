@@ -1,0 +1,17 @@
+pub mod Steps
+pub mod Advances
+pub mod Completed
+pub mod Extents
+pub mod SingleTokens
+pub mod Progress
+pub mod TypeRows
+pub mod ListRows
+pub mod NameRows
+pub mod OperandRows
+pub mod ArrowRows
+pub mod ArgumentRows
+pub mod SignRows
+pub mod CastRows
+pub mod OperatorRows
+pub mod TurnRows
+pub mod PrefixRows

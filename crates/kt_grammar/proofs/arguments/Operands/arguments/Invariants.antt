@@ -1,0 +1,12 @@
+use Rattle.std.proofs.Common.{◌++◌, ◌-◌, length}
+use Rattle.grammars.specs.Grammar.{row}
+use Rattle.kt_grammar.specs.Built as built
+use Rattle.kt_grammar.specs.Parsed.{ResumesOn}
+use Rattle.kt_grammar.specs.Rows as rows
+use Rattle.kt_grammar.proofs.arguments.Operands.arguments.Given as goal
+
+abbrev pub invariant-loop-all : goal.invariant-loop-all
+invariant-loop-all g l = ResumesOn (row rows.arguments) (λ xs c. xs ++ built.arguments_of c) l.self.tokens.now l.fn.at l.fn.before l.at l.all
+
+abbrev pub decreases-loop-all : goal.decreases-loop-all
+decreases-loop-all g l = length l.self.tokens.now - l.at.at

@@ -1,5 +1,0 @@
-use Rattle.std.proofs.Common.{refl}
-use Rattle.kt_parser.proofs.calls_are_read.Goals as goal
-
-pub returns : goal.returns
-returns c = (refl, refl, refl, refl)

@@ -1,5 +1,0 @@
-use Rattle.kt_parser.proofs.Advances.{moves}
-use Rattle.kt_parser.proofs.cursor.eat_op_on.Goals as goal
-
-pub returns-in-Some : goal.returns-in-Some
-returns-in-Some c = moves c.in-Some.ensures c.to.ensures

@@ -1,5 +1,0 @@
-use Rattle.std.proofs.Common.{refl}
-use Rattle.kt_parser.proofs.files_are_built.Goals as goal
-
-pub returns : goal.returns
-returns c = (refl, refl, refl)
