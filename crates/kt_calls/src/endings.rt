@@ -1,6 +1,6 @@
 //! What stands behind an operand: postfix operators, members, indexes and calls (Kotlin Language Specification 1.9, "Postfix operator
 //! expressions").
-ghost use Rattle.std.specs.Prelude.{◌≡◌, ◌≤◌, ◌++◌, ◌∷◌, [], IfOk, length};
+ghost use Rattle.std.specs.Prelude.{◌≡◌, ◌≤◌, ◌++◌, ◌∷◌, [], length};
 ghost use Rattle.grammars.specs.Grammar.{row};
 ghost use Rattle.kt_bodies.specs.Looks.{Looked};
 ghost use Rattle.kt_bodies.specs.Statements.{ReadsStatement};
@@ -10,6 +10,7 @@ ghost use Rattle.kt_grammar.specs.Expressions.{ReadsExpression};
 ghost use Rattle.kt_grammar.specs.Lookahead as tests;
 ghost use Rattle.kt_grammar.specs.Parsed.{Advances};
 ghost use Rattle.kt_grammar.specs.Rows as rows;
+ghost use Rattle.kt_suffixes.specs.Suffixes.{IsTable};
 
 use crate::calls::call;
 use crate::marks::{Mark, expect_mark, is_mark_at, span_at};
@@ -18,11 +19,12 @@ use kc_text::Fail;
 use kc_tree::{Expr, TypeArg};
 use kt_bodies::{Bodies, expect_name_on};
 use kt_grammar::{
-    Cursor, Operands, behind, eat_op_on, expect_op_on, span_between, suffix_follows, type_arguments,
+    Cursor, Look, Operands, behind, eat_op_on, expect_op_on, span_between, type_arguments,
 };
 use kt_lexer::{Operator, Token};
+use kt_suffixes::suffix_at;
 use sqlite_items::Items;
-use std::alloc::{AllocError, Global};
+use std::alloc::Global;
 
 /// A postfix operator.
 fn postfix_operator(tokens: &[Token], at: Cursor) -> Result<(Ending, Cursor), Fail<usize>>
@@ -242,19 +244,16 @@ pub fn suffix<
 }
 
 /// Whether a postfix operator, a member, indexes or a call follow an operand that ends before the place.
-fn look_for_suffix(
-    alloc: Global,
-    tokens: &[Token],
-    at: Cursor,
-) -> Result<(bool, Cursor), AllocError>
-    requires { at.at ≤ length tokens.now }
-    ensures { IfOk result (λ look. Looked tests.suffix_follows (row rows.suffix) tokens.now at look.1 look.0) }
+fn look_for_suffix(tokens: &[Token], looks: &[Look], at: Cursor) -> (bool, Cursor)
+    requires looks { IsTable tokens.now looks.now }
+    requires within { at.at ≤ length tokens.now }
+    ensures { Looked tests.suffix_follows (row rows.suffix) tokens.now at result.1 result.0 }
 {
-    let look = suffix_follows(alloc, tokens, at.at)?;
-    Ok((look.holds, at.seen(look.end)))
+    let look = suffix_at(tokens, looks, at.at);
+    (look.holds, at.seen(look.end))
 }
 
-/// An operand with all postfix operators, members, indexes and calls behind it.
+/// An operand with all postfix operators, members, indexes and calls behind it. The table tells at which places any of them follows.
 ///
 /// # Errors
 ///
@@ -262,9 +261,15 @@ fn look_for_suffix(
 pub fn suffixes<
     F: Fn(Global, &[Token], Cursor) -> Result<(Expr, Cursor), Fail<usize>>,
     G: Fn(Global, &[Token], Cursor) -> Result<(Expr, Cursor), Fail<usize>>,
->(bodies: &Bodies<'_, F, G>, left: Expr, at: Cursor) -> Result<(Expr, Cursor), Fail<usize>>
+>(
+    bodies: &Bodies<'_, F, G>,
+    looks: &[Look],
+    left: Expr,
+    at: Cursor,
+) -> Result<(Expr, Cursor), Fail<usize>>
     requires expressions { ReadsExpression bodies.now.tokens.now bodies.now.from (F.pre bodies.now.expression) (F.post bodies.now.expression) }
     requires statements { ReadsStatement bodies.now.tokens.now bodies.now.from (G.pre bodies.now.statement) (G.post bodies.now.statement) }
+    requires looks { IsTable bodies.now.tokens.now looks.now }
     requires behind { bodies.now.from ≤ at.at }
     requires within { at.at ≤ length bodies.now.tokens.now }
     ensures { Advances spec.suffixes (built.suffixes_of left) bodies.now.tokens.now at result }
@@ -272,7 +277,7 @@ pub fn suffixes<
     let mut left = left;
     let mut at = at;
     loop {
-        let (holds, mid) = look_for_suffix(bodies.alloc, bodies.tokens, at)?;
+        let (holds, mid) = look_for_suffix(bodies.tokens, looks, at);
         if !holds {
             return Ok((left, mid));
         }

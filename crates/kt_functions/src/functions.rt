@@ -6,6 +6,7 @@ ghost use Rattle.kt_functions.specs.Sites as spec;
 ghost use Rattle.kt_grammar.specs.DeclarationsBuilt as built;
 ghost use Rattle.kt_grammar.specs.Parsed.{Advances};
 ghost use Rattle.kt_grammar.specs.Rows as rows;
+ghost use Rattle.kt_suffixes.specs.Suffixes.{IsTable};
 
 use crate::parameters::bracketed_parameters;
 use crate::receivers::{FunName, function_name};
@@ -15,7 +16,7 @@ use crate::values::written_body;
 use kc_text::Fail;
 use kc_tree::{Fun, FunBody, Param, Type, TypeParam};
 use kt_bodies::{Terminal, expect_on};
-use kt_grammar::{Cursor, behind, colon_type};
+use kt_grammar::{Cursor, Look, behind, colon_type};
 use kt_lexer::{Keyword, Token};
 use sqlite_items::Items;
 use std::alloc::Global;
@@ -45,14 +46,16 @@ pub struct Named {
 fn result_and_body(
     alloc: Global,
     tokens: &[Token],
+    looks: &[Look],
     is_abstract: bool,
     at: Cursor,
 ) -> Result<(Ending, Cursor), Fail<usize>>
-    requires { at.at ≤ length tokens.now }
+    requires looks { IsTable tokens.now looks.now }
+    requires within { at.at ≤ length tokens.now }
     ensures { Advances (parts.ending is_abstract) parts.ending_of tokens.now at result }
 {
     let (ty, mid) = behind(at.looked, colon_type(alloc, tokens, at.at))?;
-    let (body, end) = written_body(alloc, tokens, is_abstract, mid)?;
+    let (body, end) = written_body(alloc, tokens, looks, is_abstract, mid)?;
     Ok((Ending { result: ty, body }, end))
 }
 
@@ -60,14 +63,16 @@ fn result_and_body(
 fn behind_name(
     alloc: Global,
     tokens: &[Token],
+    looks: &[Look],
     is_abstract: bool,
     at: Cursor,
 ) -> Result<(Signature, Cursor), Fail<usize>>
-    requires { at.at ≤ length tokens.now }
+    requires looks { IsTable tokens.now looks.now }
+    requires within { at.at ≤ length tokens.now }
     ensures { Advances (parts.signature is_abstract) parts.signature_of tokens.now at result }
 {
-    let (values, mid) = bracketed_parameters(alloc, tokens, at)?;
-    let (ending, end) = result_and_body(alloc, tokens, is_abstract, mid)?;
+    let (values, mid) = bracketed_parameters(alloc, tokens, looks, at)?;
+    let (ending, end) = result_and_body(alloc, tokens, looks, is_abstract, mid)?;
     Ok((Signature { values, ending }, end))
 }
 
@@ -75,15 +80,17 @@ fn behind_name(
 fn from_name(
     alloc: Global,
     tokens: &[Token],
+    looks: &[Look],
     is_abstract: bool,
     site: Site,
     at: Cursor,
 ) -> Result<(Named, Cursor), Fail<usize>>
-    requires { at.at ≤ length tokens.now }
+    requires looks { IsTable tokens.now looks.now }
+    requires within { at.at ≤ length tokens.now }
     ensures { Advances (parts.named is_abstract (spec.site_of site)) parts.named_of tokens.now at result }
 {
     let (name, mid) = function_name(alloc, tokens, site, at)?;
-    let (signature, end) = behind_name(alloc, tokens, is_abstract, mid)?;
+    let (signature, end) = behind_name(alloc, tokens, looks, is_abstract, mid)?;
     Ok((Named { name, signature }, end))
 }
 
@@ -114,15 +121,17 @@ fn assembled(params: Items<TypeParam>, named: Named) -> Fun
 pub fn function(
     alloc: Global,
     tokens: &[Token],
+    looks: &[Look],
     is_abstract: bool,
     site: Site,
     at: Cursor,
 ) -> Result<(Fun, Cursor), Fail<usize>>
-    requires { at.at ≤ length tokens.now }
+    requires looks { IsTable tokens.now looks.now }
+    requires within { at.at ≤ length tokens.now }
     ensures { Advances (row (rows.function is_abstract (spec.site_of site))) built.function_of tokens.now at result }
 {
     let next = expect_on(tokens, at, Terminal::Word(Keyword::Fun))?;
     let (params, mid) = parameters_of_type(alloc, tokens, next)?;
-    let (named, end) = from_name(alloc, tokens, is_abstract, site, mid)?;
+    let (named, end) = from_name(alloc, tokens, looks, is_abstract, site, mid)?;
     Ok((assembled(params, named), end))
 }

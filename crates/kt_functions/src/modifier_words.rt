@@ -73,14 +73,16 @@ pub fn modifier_of(token: &Token) -> Mod
     }
 }
 
-fn is_modifier_name(kind: &TokenKind) -> bool
+/// Whether a name is a modifier.
+pub fn is_modifier_name(kind: &TokenKind) -> bool
     ensures { result ≡ tokens_of.is_modifier_name (of_kind kind.now) }
 {
     let class = class(kind);
     class == 86 || (class > 91 && class < 110)
 }
 
-fn is_modifier(kind: &TokenKind) -> bool
+/// Whether a token is a modifier: such a name, or `in`.
+pub fn is_modifier(kind: &TokenKind) -> bool
     ensures { result ≡ tokens_of.is_modifier (of_kind kind.now) }
 {
     class(kind) == keyword_class(Keyword::In) || is_modifier_name(kind)

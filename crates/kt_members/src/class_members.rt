@@ -8,6 +8,7 @@ ghost use Rattle.kt_grammar.specs.DeclarationsBuilt as built;
 ghost use Rattle.kt_grammar.specs.Parsed.{Advances};
 ghost use Rattle.kt_grammar.specs.Rows as rows;
 ghost use Rattle.kt_grammar.specs.Tokens.{marked};
+ghost use Rattle.kt_suffixes.specs.Suffixes.{IsTable};
 
 use crate::member_words::{MemberWord, expect_word};
 use crate::modified::modified_member;
@@ -17,19 +18,25 @@ use kc_text::Fail;
 use kc_tree::Member;
 use kt_bodies::behind_semicolons;
 use kt_functions::Site;
-use kt_grammar::{Cursor, eat_op_on, expect_op_on, span_between};
+use kt_grammar::{Cursor, Look, eat_op_on, expect_op_on, span_between};
 use kt_lexer::{Operator, Token};
 use kt_parser::block_at;
 use sqlite_items::Items;
 use std::alloc::Global;
 
 /// An `init` block.
-fn init_block(alloc: Global, tokens: &[Token], at: Cursor) -> Result<(Member, Cursor), Fail<usize>>
-    requires { at.at ≤ length tokens.now }
+fn init_block(
+    alloc: Global,
+    tokens: &[Token],
+    looks: &[Look],
+    at: Cursor,
+) -> Result<(Member, Cursor), Fail<usize>>
+    requires looks { IsTable tokens.now looks.now }
+    requires within { at.at ≤ length tokens.now }
     ensures { Advances spec.init_block spec.init_of tokens.now at result }
 {
     let next = expect_word(tokens, at, MemberWord::Init)?;
-    let (body, end) = block_at(alloc, tokens, next)?;
+    let (body, end) = block_at(alloc, tokens, looks, next)?;
     let span = span_between(tokens, at.at, end.at);
     Ok((init_member(alloc, span, body), end))
 }
@@ -43,16 +50,18 @@ fn init_block(alloc: Global, tokens: &[Token], at: Cursor) -> Result<(Member, Cu
 pub fn member(
     alloc: Global,
     tokens: &[Token],
+    looks: &[Look],
     site: Site,
     at: Cursor,
 ) -> Result<(Member, Cursor), Fail<usize>>
-    requires { at.at ≤ length tokens.now }
+    requires looks { IsTable tokens.now looks.now }
+    requires within { at.at ≤ length tokens.now }
     ensures { Advances (row (rows.member (site_of site))) built.member_of tokens.now at result }
 {
     if is_init_at(tokens, site, at.at) {
-        return init_block(alloc, tokens, at);
+        return init_block(alloc, tokens, looks, at);
     }
-    modified_member(alloc, tokens, site, at)
+    modified_member(alloc, tokens, looks, site, at)
 }
 
 /// Whether a member follows one that ends before the place, and where it begins.
@@ -71,14 +80,16 @@ fn next_member(tokens: &[Token], site: Site, at: Cursor) -> (Cursor, bool)
 fn one_more(
     alloc: Global,
     tokens: &[Token],
+    looks: &[Look],
     before: Items<Member>,
     site: Site,
     at: Cursor,
 ) -> Result<(Items<Member>, Cursor), Fail<usize>>
-    requires { at.at ≤ length tokens.now }
+    requires looks { IsTable tokens.now looks.now }
+    requires within { at.at ≤ length tokens.now }
     ensures { Advances (row (rows.member (site_of site))) (λ x. before ++ built.member_of x ∷ []) tokens.now at result }
 {
-    let (found, end) = member(alloc, tokens, site, at)?;
+    let (found, end) = member(alloc, tokens, looks, site, at)?;
     let mut all = before;
     all.push(found)?;
     Ok((all, end))
@@ -88,11 +99,13 @@ fn one_more(
 fn further(
     alloc: Global,
     tokens: &[Token],
+    looks: &[Look],
     before: Items<Member>,
     site: Site,
     at: Cursor,
 ) -> Result<(Items<Member>, Cursor), Fail<usize>>
-    requires { at.at ≤ length tokens.now }
+    requires looks { IsTable tokens.now looks.now }
+    requires within { at.at ≤ length tokens.now }
     ensures { Advances (row (rows.after_member (site_of site))) (λ x. before ++ built.members_behind x) tokens.now at result }
 {
     let mut all = before;
@@ -102,7 +115,7 @@ fn further(
         if !goes_on {
             return Ok((all, next));
         }
-        let (found, end) = one_more(alloc, tokens, all, site, next)?;
+        let (found, end) = one_more(alloc, tokens, looks, all, site, next)?;
         all = found;
         at = end;
     }
@@ -116,31 +129,35 @@ fn further(
 pub fn members(
     alloc: Global,
     tokens: &[Token],
+    looks: &[Look],
     site: Site,
     at: Cursor,
 ) -> Result<(Items<Member>, Cursor), Fail<usize>>
-    requires { at.at ≤ length tokens.now }
+    requires looks { IsTable tokens.now looks.now }
+    requires within { at.at ≤ length tokens.now }
     ensures { Advances (row (rows.members (site_of site))) built.members_of tokens.now at result }
 {
     let none = Items::new(alloc);
     if !begins_member(tokens, site, at.at) {
         return Ok((none, at));
     }
-    let (all, end) = one_more(alloc, tokens, none, site, at)?;
-    further(alloc, tokens, all, site, end)
+    let (all, end) = one_more(alloc, tokens, looks, none, site, at)?;
+    further(alloc, tokens, looks, all, site, end)
 }
 
 /// Members, and the brace behind them.
 fn to_brace(
     alloc: Global,
     tokens: &[Token],
+    looks: &[Look],
     site: Site,
     at: Cursor,
 ) -> Result<(Items<Member>, Cursor), Fail<usize>>
-    requires { at.at ≤ length tokens.now }
+    requires looks { IsTable tokens.now looks.now }
+    requires within { at.at ≤ length tokens.now }
     ensures { Advances (spec.to_brace (site_of site)) spec.before_brace tokens.now at result }
 {
-    let (all, end) = members(alloc, tokens, site, at)?;
+    let (all, end) = members(alloc, tokens, looks, site, at)?;
     let end = expect_op_on(tokens, end, Operator::CloseBrace)?;
     Ok((all, end))
 }
@@ -153,13 +170,15 @@ fn to_brace(
 pub fn class_body(
     alloc: Global,
     tokens: &[Token],
+    looks: &[Look],
     site: Site,
     at: Cursor,
 ) -> Result<(Items<Member>, Cursor), Fail<usize>>
-    requires { at.at ≤ length tokens.now }
+    requires looks { IsTable tokens.now looks.now }
+    requires within { at.at ≤ length tokens.now }
     ensures { Advances (row (rows.class_body (site_of site))) spec.members_in tokens.now at result }
 {
     let next = expect_op_on(tokens, at, Operator::OpenBrace)?;
-    let (all, end) = to_brace(alloc, tokens, site, next)?;
+    let (all, end) = to_brace(alloc, tokens, looks, site, next)?;
     Ok((all, end))
 }

@@ -5,12 +5,13 @@ ghost use Rattle.kt_members.specs.Getters as spec;
 ghost use Rattle.kt_grammar.specs.DeclarationsBuilt as built;
 ghost use Rattle.kt_grammar.specs.Parsed.{Advances};
 ghost use Rattle.kt_grammar.specs.Rows as rows;
+ghost use Rattle.kt_suffixes.specs.Suffixes.{IsTable};
 
 use crate::member_words::{MemberWord, expect_word};
 use crate::setters::{setter_behind_block, setter_behind_value};
 use kc_text::Fail;
 use kc_tree::{FunBody, Getter, Setter, Type};
-use kt_grammar::{Cursor, behind, colon_type, expect_op_on, is_op_at, span_between};
+use kt_grammar::{Cursor, Look, behind, colon_type, expect_op_on, is_op_at, span_between};
 use kt_lexer::{Operator, Token};
 use kt_parser::{block_at, expression_at};
 use std::alloc::Global;
@@ -41,14 +42,16 @@ fn getter_head(
 fn getter_in_braces(
     alloc: Global,
     tokens: &[Token],
+    looks: &[Look],
     start: usize,
     ty: Option<Type>,
     at: Cursor,
 ) -> Result<(Getter, Cursor), Fail<usize>>
-    requires { at.at ≤ length tokens.now }
+    requires looks { IsTable tokens.now looks.now }
+    requires within { at.at ≤ length tokens.now }
     ensures { Advances (row rows.block) (spec.getter_in_braces (first (drop start tokens.now)) ty) tokens.now at result }
 {
-    let (statements, end) = block_at(alloc, tokens, at)?;
+    let (statements, end) = block_at(alloc, tokens, looks, at)?;
     let span = span_between(tokens, start, end.at);
     let getter = Getter {
         span,
@@ -62,15 +65,17 @@ fn getter_in_braces(
 fn getter_with_value(
     alloc: Global,
     tokens: &[Token],
+    looks: &[Look],
     start: usize,
     ty: Option<Type>,
     at: Cursor,
 ) -> Result<(Getter, Cursor), Fail<usize>>
-    requires { at.at ≤ length tokens.now }
+    requires looks { IsTable tokens.now looks.now }
+    requires within { at.at ≤ length tokens.now }
     ensures { Advances rows.value (spec.getter_with_value (first (drop start tokens.now)) ty) tokens.now at result }
 {
     let next = expect_op_on(tokens, at, Operator::Assign)?;
-    let (value, end) = expression_at(alloc, tokens, next)?;
+    let (value, end) = expression_at(alloc, tokens, looks, next)?;
     let span = span_between(tokens, start, end.at);
     let getter = Getter {
         span,
@@ -84,14 +89,16 @@ fn getter_with_value(
 fn braces_and_setter(
     alloc: Global,
     tokens: &[Token],
+    looks: &[Look],
     is_var: bool,
     getter: Getter,
     at: Cursor,
 ) -> Result<(AccessorPair, Cursor), Fail<usize>>
-    requires { at.at ≤ length tokens.now }
+    requires looks { IsTable tokens.now looks.now }
+    requires within { at.at ≤ length tokens.now }
     ensures { Advances (rows.setter_behind_block is_var) (λ x. record { getter = Some getter; setter = built.setter_behind_block_of x }) tokens.now at result }
 {
-    let (setter, end) = setter_behind_block(alloc, tokens, is_var, at)?;
+    let (setter, end) = setter_behind_block(alloc, tokens, looks, is_var, at)?;
     let accessors = AccessorPair {
         getter: Some(getter),
         setter,
@@ -103,14 +110,16 @@ fn braces_and_setter(
 fn value_and_setter(
     alloc: Global,
     tokens: &[Token],
+    looks: &[Look],
     is_var: bool,
     getter: Getter,
     at: Cursor,
 ) -> Result<(AccessorPair, Cursor), Fail<usize>>
-    requires { at.at ≤ length tokens.now }
+    requires looks { IsTable tokens.now looks.now }
+    requires within { at.at ≤ length tokens.now }
     ensures { Advances (rows.setter_behind_value is_var) (λ x. record { getter = Some getter; setter = built.setter_behind_value_of x }) tokens.now at result }
 {
-    let (setter, end) = setter_behind_value(alloc, tokens, is_var, at)?;
+    let (setter, end) = setter_behind_value(alloc, tokens, looks, is_var, at)?;
     let accessors = AccessorPair {
         getter: Some(getter),
         setter,
@@ -122,20 +131,22 @@ fn value_and_setter(
 fn behind_head(
     alloc: Global,
     tokens: &[Token],
+    looks: &[Look],
     is_var: bool,
     start: usize,
     ty: Option<Type>,
     at: Cursor,
 ) -> Result<(AccessorPair, Cursor), Fail<usize>>
-    requires { at.at ≤ length tokens.now }
+    requires looks { IsTable tokens.now looks.now }
+    requires within { at.at ≤ length tokens.now }
     ensures { Advances (spec.behind_head is_var) (spec.behind_head_of (first (drop start tokens.now)) ty) tokens.now at result }
 {
     if is_op_at(tokens, at.at, Operator::OpenBrace) {
-        let (getter, mid) = getter_in_braces(alloc, tokens, start, ty, at)?;
-        return braces_and_setter(alloc, tokens, is_var, getter, mid);
+        let (getter, mid) = getter_in_braces(alloc, tokens, looks, start, ty, at)?;
+        return braces_and_setter(alloc, tokens, looks, is_var, getter, mid);
     }
-    let (getter, mid) = getter_with_value(alloc, tokens, start, ty, at)?;
-    value_and_setter(alloc, tokens, is_var, getter, mid)
+    let (getter, mid) = getter_with_value(alloc, tokens, looks, start, ty, at)?;
+    value_and_setter(alloc, tokens, looks, is_var, getter, mid)
 }
 
 /// A getter and perhaps a setter, which a `var` has.
@@ -147,12 +158,14 @@ fn behind_head(
 pub fn accessors(
     alloc: Global,
     tokens: &[Token],
+    looks: &[Look],
     is_var: bool,
     at: Cursor,
 ) -> Result<(AccessorPair, Cursor), Fail<usize>>
-    requires { at.at ≤ length tokens.now }
+    requires looks { IsTable tokens.now looks.now }
+    requires within { at.at ≤ length tokens.now }
     ensures { Advances (row (rows.accessors is_var)) spec.accessors_of tokens.now at result }
 {
     let (ty, mid) = getter_head(alloc, tokens, at)?;
-    behind_head(alloc, tokens, is_var, at.at, ty, mid)
+    behind_head(alloc, tokens, looks, is_var, at.at, ty, mid)
 }

@@ -12,5 +12,6 @@ mod setters;
 
 pub use class_members::{class_body, member, members};
 pub use getters::{AccessorPair, accessors};
+pub use modifier_words::eat_modifier;
 pub use properties::property;
 pub use setters::setter;

@@ -6,6 +6,7 @@ ghost use Rattle.kt_functions.specs.Sites.{site_of};
 ghost use Rattle.kt_grammar.specs.DeclarationsBuilt as built;
 ghost use Rattle.kt_grammar.specs.Parsed.{Advances};
 ghost use Rattle.kt_grammar.specs.Rows as rows;
+ghost use Rattle.kt_suffixes.specs.Suffixes.{IsTable};
 
 use crate::modifier_words::{eat_modifier, is_abstract_by};
 use crate::nodes::modified_member_at;
@@ -13,7 +14,7 @@ use crate::properties::property;
 use kc_text::Fail;
 use kc_tree::{Member, MemberKind, Mod};
 use kt_functions::{Site, function, is_word_at};
-use kt_grammar::{Cursor, span_between};
+use kt_grammar::{Cursor, Look, span_between};
 use kt_lexer::{Keyword, Token};
 use sqlite_items::Items;
 use std::alloc::Global;
@@ -29,14 +30,16 @@ pub struct Modified {
 fn function_member(
     alloc: Global,
     tokens: &[Token],
+    looks: &[Look],
     is_abstract: bool,
     site: Site,
     at: Cursor,
 ) -> Result<(MemberKind, Cursor), Fail<usize>>
-    requires { at.at ≤ length tokens.now }
+    requires looks { IsTable tokens.now looks.now }
+    requires within { at.at ≤ length tokens.now }
     ensures { Advances (row (rows.function is_abstract (site_of site))) spec.function_kind tokens.now at result }
 {
-    let (found, end) = function(alloc, tokens, is_abstract, site, at)?;
+    let (found, end) = function(alloc, tokens, looks, is_abstract, site, at)?;
     Ok((MemberKind::Fun(found), end))
 }
 
@@ -44,14 +47,16 @@ fn function_member(
 fn property_member(
     alloc: Global,
     tokens: &[Token],
+    looks: &[Look],
     is_abstract: bool,
     site: Site,
     at: Cursor,
 ) -> Result<(MemberKind, Cursor), Fail<usize>>
-    requires { at.at ≤ length tokens.now }
+    requires looks { IsTable tokens.now looks.now }
+    requires within { at.at ≤ length tokens.now }
     ensures { Advances (row (rows.property is_abstract (site_of site))) spec.property_kind tokens.now at result }
 {
-    let (found, end) = property(alloc, tokens, is_abstract, site, at)?;
+    let (found, end) = property(alloc, tokens, looks, is_abstract, site, at)?;
     Ok((MemberKind::Prop(found), end))
 }
 
@@ -59,32 +64,36 @@ fn property_member(
 fn unmodified(
     alloc: Global,
     tokens: &[Token],
+    looks: &[Look],
     is_abstract: bool,
     site: Site,
     at: Cursor,
 ) -> Result<(MemberKind, Cursor), Fail<usize>>
-    requires { at.at ≤ length tokens.now }
+    requires looks { IsTable tokens.now looks.now }
+    requires within { at.at ≤ length tokens.now }
     ensures { Advances (spec.unmodified is_abstract (site_of site)) spec.unmodified_of tokens.now at result }
 {
     if is_word_at(tokens, at.at, Keyword::Fun) {
-        return function_member(alloc, tokens, is_abstract, site, at);
+        return function_member(alloc, tokens, looks, is_abstract, site, at);
     }
-    property_member(alloc, tokens, is_abstract, site, at)
+    property_member(alloc, tokens, looks, is_abstract, site, at)
 }
 
 /// A member behind its modifiers.
 fn behind_modifiers(
     alloc: Global,
     tokens: &[Token],
+    looks: &[Look],
     mods: Items<Mod>,
     is_abstract: bool,
     site: Site,
     at: Cursor,
 ) -> Result<(Modified, Cursor), Fail<usize>>
-    requires { at.at ≤ length tokens.now }
+    requires looks { IsTable tokens.now looks.now }
+    requires within { at.at ≤ length tokens.now }
     ensures { Advances (spec.unmodified is_abstract (site_of site)) (spec.with_mods mods) tokens.now at result }
 {
-    let (kind, end) = unmodified(alloc, tokens, is_abstract, site, at)?;
+    let (kind, end) = unmodified(alloc, tokens, looks, is_abstract, site, at)?;
     Ok((Modified { mods, kind }, end))
 }
 
@@ -92,10 +101,12 @@ fn behind_modifiers(
 fn with_modifiers(
     alloc: Global,
     tokens: &[Token],
+    looks: &[Look],
     site: Site,
     at: Cursor,
 ) -> Result<(Modified, Cursor), Fail<usize>>
-    requires { at.at ≤ length tokens.now }
+    requires looks { IsTable tokens.now looks.now }
+    requires within { at.at ≤ length tokens.now }
     ensures { Advances (row (rows.modified_member false (site_of site))) (spec.modified_behind []) tokens.now at result }
 {
     let mut mods = Items::new(alloc);
@@ -106,20 +117,22 @@ fn with_modifiers(
         mods.push(found)?;
         at = next;
     }
-    behind_modifiers(alloc, tokens, mods, is_abstract, site, at)
+    behind_modifiers(alloc, tokens, looks, mods, is_abstract, site, at)
 }
 
 /// A function or a property as a member, with its modifiers.
 pub fn modified_member(
     alloc: Global,
     tokens: &[Token],
+    looks: &[Look],
     site: Site,
     at: Cursor,
 ) -> Result<(Member, Cursor), Fail<usize>>
-    requires { at.at ≤ length tokens.now }
+    requires looks { IsTable tokens.now looks.now }
+    requires within { at.at ≤ length tokens.now }
     ensures { Advances (row (rows.modified_member false (site_of site))) built.modified_of tokens.now at result }
 {
-    let (found, end) = with_modifiers(alloc, tokens, site, at)?;
+    let (found, end) = with_modifiers(alloc, tokens, looks, site, at)?;
     let span = span_between(tokens, at.at, end.at);
     Ok((modified_member_at(span, found), end))
 }

@@ -11,22 +11,9 @@ ghost use Rattle.kt_grammar.specs.Tokens.{marked};
 
 use kc_tree::Mod;
 use kt_bodies::is_marked;
-use kt_functions::{Site, modifier_of};
+use kt_functions::{Site, is_modifier, modifier_of};
 use kt_grammar::{Cursor, class, is_at};
 use kt_lexer::{Keyword, Token, TokenKind};
-
-fn is_modifier_name(kind: &TokenKind) -> bool
-    ensures { result ≡ tokens_of.is_modifier_name (of_kind kind.now) }
-{
-    let class = class(kind);
-    class == 86 || (class > 91 && class < 110)
-}
-
-fn is_modifier(kind: &TokenKind) -> bool
-    ensures { result ≡ tokens_of.is_modifier (of_kind kind.now) }
-{
-    class(kind) == 54 || is_modifier_name(kind)
-}
 
 fn modifier_at(tokens: &[Token], at: usize) -> Option<Mod>
     ensures { spec.ModifierAt (first (drop at tokens.now)) result }

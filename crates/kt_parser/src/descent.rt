@@ -4,13 +4,14 @@ ghost use Rattle.grammars.specs.Grammar.{row};
 ghost use Rattle.kt_grammar.specs.Built as built;
 ghost use Rattle.kt_grammar.specs.Parsed.{Advances};
 ghost use Rattle.kt_grammar.specs.Rows as rows;
+ghost use Rattle.kt_suffixes.specs.Suffixes.{IsTable};
 
 use crate::over::expression_over;
 use crate::statements::statement_over;
 use kc_text::Fail;
 use kc_tree::Expr;
 use kt_bodies::Bodies;
-use kt_grammar::Cursor;
+use kt_grammar::{Cursor, Look};
 use kt_lexer::Token;
 use std::alloc::Global;
 
@@ -19,10 +20,12 @@ use std::alloc::Global;
 pub fn expression(
     alloc: Global,
     tokens: &[Token],
+    looks: &[Look],
     depth: usize,
     at: Cursor,
 ) -> Result<(Expr, Cursor), Fail<usize>>
-    requires { at.at ≤ length tokens.now }
+    requires looks { IsTable tokens.now looks.now }
+    requires within { at.at ≤ length tokens.now }
     ensures { Advances (row rows.expression) built.expression_of tokens.now at result }
 {
     if depth == 0 {
@@ -33,16 +36,18 @@ pub fn expression(
         alloc,
         tokens,
         from: 0,
-        expression: |alloc: Global, tokens: &[Token], at: Cursor|
-            requires { at.at ≤ length tokens.now }
-            ensures { Advances (row rows.expression) built.expression_of tokens.now at result }
-        { expression(alloc, tokens, inner, at) },
-        statement: |alloc: Global, tokens: &[Token], at: Cursor|
-            requires { at.at ≤ length tokens.now }
-            ensures { Advances (row rows.statement) built.statement_of tokens.now at result }
-        { statement(alloc, tokens, inner, at) },
+        expression: |alloc: Global, _: &[Token], at: Cursor|
+            requires looks { IsTable tokens.now looks.now }
+            requires within { at.at ≤ length tokens.now }
+            ensures { Advances (row rows.expression) built.expression_of tokens.entry.now at result }
+        { expression(alloc, tokens, looks, inner, at) },
+        statement: |alloc: Global, _: &[Token], at: Cursor|
+            requires looks { IsTable tokens.now looks.now }
+            requires within { at.at ≤ length tokens.now }
+            ensures { Advances (row rows.statement) built.statement_of tokens.entry.now at result }
+        { statement(alloc, tokens, looks, inner, at) },
     };
-    expression_over(&bodies, at)
+    expression_over(&bodies, looks, at)
 }
 
 /// The longest statement at a place.
@@ -50,10 +55,12 @@ pub fn expression(
 pub fn statement(
     alloc: Global,
     tokens: &[Token],
+    looks: &[Look],
     depth: usize,
     at: Cursor,
 ) -> Result<(Expr, Cursor), Fail<usize>>
-    requires { at.at ≤ length tokens.now }
+    requires looks { IsTable tokens.now looks.now }
+    requires within { at.at ≤ length tokens.now }
     ensures { Advances (row rows.statement) built.statement_of tokens.now at result }
 {
     if depth == 0 {
@@ -64,14 +71,16 @@ pub fn statement(
         alloc,
         tokens,
         from: 0,
-        expression: |alloc: Global, tokens: &[Token], at: Cursor|
-            requires { at.at ≤ length tokens.now }
-            ensures { Advances (row rows.expression) built.expression_of tokens.now at result }
-        { expression(alloc, tokens, inner, at) },
-        statement: |alloc: Global, tokens: &[Token], at: Cursor|
-            requires { at.at ≤ length tokens.now }
-            ensures { Advances (row rows.statement) built.statement_of tokens.now at result }
-        { statement(alloc, tokens, inner, at) },
+        expression: |alloc: Global, _: &[Token], at: Cursor|
+            requires looks { IsTable tokens.now looks.now }
+            requires within { at.at ≤ length tokens.now }
+            ensures { Advances (row rows.expression) built.expression_of tokens.entry.now at result }
+        { expression(alloc, tokens, looks, inner, at) },
+        statement: |alloc: Global, _: &[Token], at: Cursor|
+            requires looks { IsTable tokens.now looks.now }
+            requires within { at.at ≤ length tokens.now }
+            ensures { Advances (row rows.statement) built.statement_of tokens.entry.now at result }
+        { statement(alloc, tokens, looks, inner, at) },
     };
-    statement_over(&bodies, at)
+    statement_over(&bodies, looks, at)
 }

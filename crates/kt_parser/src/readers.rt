@@ -5,12 +5,13 @@ ghost use Rattle.kt_parser.specs.Readers.{Expresses};
 ghost use Rattle.kt_grammar.specs.Built as built;
 ghost use Rattle.kt_grammar.specs.Parsed.{Advances};
 ghost use Rattle.kt_grammar.specs.Rows as rows;
+ghost use Rattle.kt_suffixes.specs.Suffixes.{IsTable};
 
 use crate::descent::{expression, statement};
 use kc_text::Fail;
 use kc_tree::{Arg, Expr};
 use kt_bodies::Bodies;
-use kt_grammar::{Cursor, Operands};
+use kt_grammar::{Cursor, Look, Operands};
 use kt_lexer::Token;
 use sqlite_items::Items;
 use std::alloc::Global;
@@ -29,12 +30,14 @@ pub const DEPTH: usize = 257;
 pub fn expression_at(
     alloc: Global,
     tokens: &[Token],
+    looks: &[Look],
     at: Cursor,
 ) -> Result<(Expr, Cursor), Fail<usize>>
-    requires { at.at ≤ length tokens.now }
+    requires looks { IsTable tokens.now looks.now }
+    requires within { at.at ≤ length tokens.now }
     ensures { Advances (row rows.expression) built.expression_of tokens.now at result }
 {
-    expression(alloc, tokens, DEPTH, at)
+    expression(alloc, tokens, looks, DEPTH, at)
 }
 
 /// The longest expression at a place, with the place behind it.
@@ -43,11 +46,17 @@ pub fn expression_at(
 ///
 /// `Found` with the place of the first token with which no expression goes on, or the farthest one that a test has looked at; it is
 /// the number of tokens where they end too early. `Memory` where memory is short, or expressions nest deeper than `DEPTH`.
-pub fn parse_expr(alloc: Global, tokens: &[Token], at: usize) -> Result<(Expr, usize), Fail<usize>>
-    requires { at ≤ length tokens.now }
+pub fn parse_expr(
+    alloc: Global,
+    tokens: &[Token],
+    looks: &[Look],
+    at: usize,
+) -> Result<(Expr, usize), Fail<usize>>
+    requires looks { IsTable tokens.now looks.now }
+    requires within { at ≤ length tokens.now }
     ensures { Expresses tokens.now at result }
 {
-    let (found, end) = expression_at(alloc, tokens, Cursor { at, looked: 0 })?;
+    let (found, end) = expression_at(alloc, tokens, looks, Cursor { at, looked: 0 })?;
     Ok((found, end.at))
 }
 
@@ -59,9 +68,11 @@ pub fn parse_expr(alloc: Global, tokens: &[Token], at: usize) -> Result<(Expr, u
 pub fn block_at(
     alloc: Global,
     tokens: &[Token],
+    looks: &[Look],
     at: Cursor,
 ) -> Result<(Items<Expr>, Cursor), Fail<usize>>
-    requires { at.at ≤ length tokens.now }
+    requires looks { IsTable tokens.now looks.now }
+    requires within { at.at ≤ length tokens.now }
     ensures { Advances (row rows.block) built.block_statements tokens.now at result }
 {
     let bodies = Bodies {
@@ -69,10 +80,11 @@ pub fn block_at(
         tokens,
         from: 0,
         expression: (),
-        statement: |alloc: Global, tokens: &[Token], at: Cursor|
-            requires { at.at ≤ length tokens.now }
-            ensures { Advances (row rows.statement) built.statement_of tokens.now at result }
-        { statement(alloc, tokens, DEPTH, at) },
+        statement: |alloc: Global, _: &[Token], at: Cursor|
+            requires looks { IsTable tokens.now looks.now }
+            requires within { at.at ≤ length tokens.now }
+            ensures { Advances (row rows.statement) built.statement_of tokens.entry.now at result }
+        { statement(alloc, tokens, looks, DEPTH, at) },
     };
     bodies.block_statements(at)
 }
@@ -85,19 +97,22 @@ pub fn block_at(
 pub fn arguments_at(
     alloc: Global,
     tokens: &[Token],
+    looks: &[Look],
     at: Cursor,
 ) -> Result<(Items<Arg>, Cursor), Fail<usize>>
-    requires { at.at ≤ length tokens.now }
+    requires looks { IsTable tokens.now looks.now }
+    requires within { at.at ≤ length tokens.now }
     ensures { Advances (row rows.arguments) built.arguments_of tokens.now at result }
 {
     let operands = Operands {
         alloc,
         tokens,
         from: 0,
-        expression: |alloc: Global, tokens: &[Token], at: Cursor|
-            requires { at.at ≤ length tokens.now }
-            ensures { Advances (row rows.expression) built.expression_of tokens.now at result }
-        { expression(alloc, tokens, DEPTH, at) },
+        expression: |alloc: Global, _: &[Token], at: Cursor|
+            requires looks { IsTable tokens.now looks.now }
+            requires within { at.at ≤ length tokens.now }
+            ensures { Advances (row rows.expression) built.expression_of tokens.entry.now at result }
+        { expression(alloc, tokens, looks, DEPTH, at) },
     };
     operands.arguments(Items::new(alloc), at)
 }

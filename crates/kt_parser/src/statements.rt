@@ -7,6 +7,7 @@ ghost use Rattle.kt_grammar.specs.Built as built;
 ghost use Rattle.kt_grammar.specs.Expressions.{ReadsExpression};
 ghost use Rattle.kt_grammar.specs.Parsed.{Advances};
 ghost use Rattle.kt_grammar.specs.Rows as rows;
+ghost use Rattle.kt_suffixes.specs.Suffixes.{IsTable};
 
 use crate::nodes::assigned;
 use crate::over::{expression_over, postfix, turns_over};
@@ -14,7 +15,7 @@ use kc_text::Fail;
 use kc_tree::Expr;
 use kt_bodies::{Bodies, begins_local, begins_loop};
 use kt_control::{local, loop_};
-use kt_grammar::{Cursor, Sign, eat_sign};
+use kt_grammar::{Cursor, Look, Sign, eat_sign};
 use kt_lexer::Token;
 use std::alloc::Global;
 
@@ -42,6 +43,7 @@ where
 /// What may follow the postfix expression that begins a statement.
 fn placed<F, G>(
     bodies: &Bodies<'_, F, G>,
+    looks: &[Look],
     left: Expr,
     at: Cursor,
 ) -> Result<(Expr, Cursor), Fail<usize>>
@@ -50,68 +52,21 @@ where
     G: Fn(Global, &[Token], Cursor) -> Result<(Expr, Cursor), Fail<usize>>,
     requires expressions { ReadsExpression bodies.now.tokens.now bodies.now.from (F.pre bodies.now.expression) (F.post bodies.now.expression) }
     requires statements { ReadsStatement bodies.now.tokens.now bodies.now.from (G.pre bodies.now.statement) (G.post bodies.now.statement) }
+    requires looks { IsTable bodies.now.tokens.now looks.now }
     requires behind { bodies.now.from ≤ at.at }
     requires within { at.at ≤ length bodies.now.tokens.now }
     ensures { Advances spec.placed (spec.placed_of left) bodies.now.tokens.now at result }
 {
     match eat_sign(bodies.tokens, at, Sign::Assignment) {
         Some((token, next)) => assigned_to(bodies, token, left, next),
-        None => turns_over(bodies, left, at),
+        None => turns_over(bodies, looks, left, at),
     }
 }
 
 /// A statement that begins with a postfix expression.
-fn no_prefix<F, G>(bodies: &Bodies<'_, F, G>, at: Cursor) -> Result<(Expr, Cursor), Fail<usize>>
-where
-    F: Fn(Global, &[Token], Cursor) -> Result<(Expr, Cursor), Fail<usize>>,
-    G: Fn(Global, &[Token], Cursor) -> Result<(Expr, Cursor), Fail<usize>>,
-    requires expressions { ReadsExpression bodies.now.tokens.now bodies.now.from (F.pre bodies.now.expression) (F.post bodies.now.expression) }
-    requires statements { ReadsStatement bodies.now.tokens.now bodies.now.from (G.pre bodies.now.statement) (G.post bodies.now.statement) }
-    requires behind { bodies.now.from ≤ at.at }
-    requires within { at.at ≤ length bodies.now.tokens.now }
-    ensures { Advances spec.no_prefix spec.no_prefix_of bodies.now.tokens.now at result }
-{
-    let (left, mid) = postfix(bodies, at)?;
-    placed(bodies, left, mid)
-}
-
-/// An expression or an assignment.
-fn no_loop<F, G>(bodies: &Bodies<'_, F, G>, at: Cursor) -> Result<(Expr, Cursor), Fail<usize>>
-where
-    F: Fn(Global, &[Token], Cursor) -> Result<(Expr, Cursor), Fail<usize>>,
-    G: Fn(Global, &[Token], Cursor) -> Result<(Expr, Cursor), Fail<usize>>,
-    requires expressions { ReadsExpression bodies.now.tokens.now bodies.now.from (F.pre bodies.now.expression) (F.post bodies.now.expression) }
-    requires statements { ReadsStatement bodies.now.tokens.now bodies.now.from (G.pre bodies.now.statement) (G.post bodies.now.statement) }
-    requires behind { bodies.now.from ≤ at.at }
-    requires within { at.at ≤ length bodies.now.tokens.now }
-    ensures { Advances spec.no_loop spec.no_loop_of bodies.now.tokens.now at result }
-{
-    match eat_sign(bodies.tokens, at, Sign::Prefix) {
-        Some(_) => expression_over(bodies, at),
-        None => no_prefix(bodies, at),
-    }
-}
-
-/// A statement that declares nothing.
-fn no_local<F, G>(bodies: &Bodies<'_, F, G>, at: Cursor) -> Result<(Expr, Cursor), Fail<usize>>
-where
-    F: Fn(Global, &[Token], Cursor) -> Result<(Expr, Cursor), Fail<usize>>,
-    G: Fn(Global, &[Token], Cursor) -> Result<(Expr, Cursor), Fail<usize>>,
-    requires expressions { ReadsExpression bodies.now.tokens.now bodies.now.from (F.pre bodies.now.expression) (F.post bodies.now.expression) }
-    requires statements { ReadsStatement bodies.now.tokens.now bodies.now.from (G.pre bodies.now.statement) (G.post bodies.now.statement) }
-    requires behind { bodies.now.from ≤ at.at }
-    requires within { at.at ≤ length bodies.now.tokens.now }
-    ensures { Advances spec.no_local spec.no_local_of bodies.now.tokens.now at result }
-{
-    if begins_loop(bodies.tokens, at.at) {
-        return loop_(bodies, at);
-    }
-    no_loop(bodies, at)
-}
-
-/// A statement.
-pub fn statement_over<F, G>(
+fn no_prefix<F, G>(
     bodies: &Bodies<'_, F, G>,
+    looks: &[Look],
     at: Cursor,
 ) -> Result<(Expr, Cursor), Fail<usize>>
 where
@@ -119,6 +74,71 @@ where
     G: Fn(Global, &[Token], Cursor) -> Result<(Expr, Cursor), Fail<usize>>,
     requires expressions { ReadsExpression bodies.now.tokens.now bodies.now.from (F.pre bodies.now.expression) (F.post bodies.now.expression) }
     requires statements { ReadsStatement bodies.now.tokens.now bodies.now.from (G.pre bodies.now.statement) (G.post bodies.now.statement) }
+    requires looks { IsTable bodies.now.tokens.now looks.now }
+    requires behind { bodies.now.from ≤ at.at }
+    requires within { at.at ≤ length bodies.now.tokens.now }
+    ensures { Advances spec.no_prefix spec.no_prefix_of bodies.now.tokens.now at result }
+{
+    let (left, mid) = postfix(bodies, looks, at)?;
+    placed(bodies, looks, left, mid)
+}
+
+/// An expression or an assignment.
+fn no_loop<F, G>(
+    bodies: &Bodies<'_, F, G>,
+    looks: &[Look],
+    at: Cursor,
+) -> Result<(Expr, Cursor), Fail<usize>>
+where
+    F: Fn(Global, &[Token], Cursor) -> Result<(Expr, Cursor), Fail<usize>>,
+    G: Fn(Global, &[Token], Cursor) -> Result<(Expr, Cursor), Fail<usize>>,
+    requires expressions { ReadsExpression bodies.now.tokens.now bodies.now.from (F.pre bodies.now.expression) (F.post bodies.now.expression) }
+    requires statements { ReadsStatement bodies.now.tokens.now bodies.now.from (G.pre bodies.now.statement) (G.post bodies.now.statement) }
+    requires looks { IsTable bodies.now.tokens.now looks.now }
+    requires behind { bodies.now.from ≤ at.at }
+    requires within { at.at ≤ length bodies.now.tokens.now }
+    ensures { Advances spec.no_loop spec.no_loop_of bodies.now.tokens.now at result }
+{
+    match eat_sign(bodies.tokens, at, Sign::Prefix) {
+        Some(_) => expression_over(bodies, looks, at),
+        None => no_prefix(bodies, looks, at),
+    }
+}
+
+/// A statement that declares nothing.
+fn no_local<F, G>(
+    bodies: &Bodies<'_, F, G>,
+    looks: &[Look],
+    at: Cursor,
+) -> Result<(Expr, Cursor), Fail<usize>>
+where
+    F: Fn(Global, &[Token], Cursor) -> Result<(Expr, Cursor), Fail<usize>>,
+    G: Fn(Global, &[Token], Cursor) -> Result<(Expr, Cursor), Fail<usize>>,
+    requires expressions { ReadsExpression bodies.now.tokens.now bodies.now.from (F.pre bodies.now.expression) (F.post bodies.now.expression) }
+    requires statements { ReadsStatement bodies.now.tokens.now bodies.now.from (G.pre bodies.now.statement) (G.post bodies.now.statement) }
+    requires looks { IsTable bodies.now.tokens.now looks.now }
+    requires behind { bodies.now.from ≤ at.at }
+    requires within { at.at ≤ length bodies.now.tokens.now }
+    ensures { Advances spec.no_local spec.no_local_of bodies.now.tokens.now at result }
+{
+    if begins_loop(bodies.tokens, at.at) {
+        return loop_(bodies, at);
+    }
+    no_loop(bodies, looks, at)
+}
+
+/// A statement.
+pub fn statement_over<F, G>(
+    bodies: &Bodies<'_, F, G>,
+    looks: &[Look],
+    at: Cursor,
+) -> Result<(Expr, Cursor), Fail<usize>>
+where
+    F: Fn(Global, &[Token], Cursor) -> Result<(Expr, Cursor), Fail<usize>>,
+    G: Fn(Global, &[Token], Cursor) -> Result<(Expr, Cursor), Fail<usize>>,
+    requires expressions { ReadsExpression bodies.now.tokens.now bodies.now.from (F.pre bodies.now.expression) (F.post bodies.now.expression) }
+    requires statements { ReadsStatement bodies.now.tokens.now bodies.now.from (G.pre bodies.now.statement) (G.post bodies.now.statement) }
+    requires looks { IsTable bodies.now.tokens.now looks.now }
     requires behind { bodies.now.from ≤ at.at }
     requires within { at.at ≤ length bodies.now.tokens.now }
     ensures { Advances (row rows.statement) built.statement_of bodies.now.tokens.now at result }
@@ -126,5 +146,5 @@ where
     if begins_local(bodies.tokens, at.at) {
         return local(bodies, at);
     }
-    no_local(bodies, at)
+    no_local(bodies, looks, at)
 }

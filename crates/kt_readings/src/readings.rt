@@ -6,6 +6,7 @@ use kc_tree::Expr;
 use kt_grammar::Cursor;
 use kt_lexer::{Token, tokens};
 use kt_parser::{expression, statement};
+use kt_suffixes::suffix_table;
 use sqlite_items::Items;
 use std::alloc::Global;
 use std::process::Abort;
@@ -57,10 +58,11 @@ pub enum Goal {
 }
 
 fn read(alloc: Global, tokens: &[Token], goal: Goal) -> Result<(Expr, Cursor), Fail<usize>> {
+    let looks = suffix_table(alloc, tokens)?;
     let start = Cursor { at: 0, looked: 0 };
     match goal {
-        Goal::Expression => expression(alloc, tokens, 40, start),
-        Goal::Statement => statement(alloc, tokens, 40, start),
+        Goal::Expression => expression(alloc, tokens, looks.as_slice(), 40, start),
+        Goal::Statement => statement(alloc, tokens, looks.as_slice(), 40, start),
     }
 }
 

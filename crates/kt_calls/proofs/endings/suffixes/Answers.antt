@@ -1,26 +1,22 @@
 use Rattle.std.proofs.lemmas.Result.{err_from_is_err_and}
 use Rattle.std.proofs.Common.{Err, Ok, refl, arith}
-use Rattle.kt_grammar.specs.Parsed.{halt_memory}
 use Rattle.kt_grammar.proofs.Progress.{goes_on}
 use Rattle.kt_bodies.proofs.Looking.{looked_so, halts_looked_turn}
 use Rattle.kt_calls.proofs.SuffixRows.{suffixes_turn, suffixes_end}
 use Rattle.kt_calls.proofs.endings.suffixes.Goals as goal
 
-pub returns-in_err-holds : goal.returns-in_err-holds
-returns-in_err-holds g c = let p = err_from_is_err_and c.from_residual.result c.from_residual.ensures.1 in rw (p.1, p.2) (halt_memory)
-
 pub returns-then-not-holds : goal.returns-then-not-holds
-returns-then-not-holds g c = c.loop-left.invariant.whole (Ok (c.loop-left.left, c.in_ok-holds.mid)) (suffixes_end c.loop-left.left (looked_so c.if-not-holds.true c.in_ok-holds.ensures))
+returns-then-not-holds g c = c.loop-left.invariant.whole (Ok (c.loop-left.left, c.look_for_suffix-holds.result.1)) (suffixes_end c.loop-left.left (looked_so c.if-not-holds.true c.look_for_suffix-holds.ensures))
 
 pub returns-in_err-whole : goal.returns-in_err-whole
 returns-in_err-whole g c =
-    let p = err_from_is_err_and c.from_residual-in_err-whole.result c.from_residual-in_err-whole.ensures.1 in
-    rw p.1 (c.loop-left.invariant.whole (Err p.0) (halts_looked_turn (looked_so c.if-not-holds.false c.in_ok-holds.ensures) (rw p.2 c.in_err-whole.ensures)))
+    let p = err_from_is_err_and c.from_residual.result c.from_residual.ensures.1 in
+    rw p.1 (c.loop-left.invariant.whole (Err p.0) (halts_looked_turn (looked_so c.if-not-holds.false c.look_for_suffix-holds.ensures) (rw p.2 c.in_err-whole.ensures)))
 
 pub loop-left-preserved : goal.loop-left-preserved
 loop-left-preserved g c =
     let v = c.loop-left.invariant in
-    let k = looked_so c.if-not-holds.false c.in_ok-holds.ensures in
+    let k = looked_so c.if-not-holds.false c.look_for_suffix-holds.ensures in
     let x = c.in_ok-whole.ensures in
     record {
       ahead = omega (arith, v.ahead, k.same, x.read.ahead);
@@ -29,4 +25,4 @@ loop-left-preserved g c =
     }
 
 pub loop-left-smaller : goal.loop-left-smaller
-loop-left-smaller g c = let x = c.in_ok-whole.ensures in omega (arith, (looked_so c.if-not-holds.false c.in_ok-holds.ensures).same, goes_on refl x.read, x.read.within)
+loop-left-smaller g c = let x = c.in_ok-whole.ensures in omega (arith, (looked_so c.if-not-holds.false c.look_for_suffix-holds.ensures).same, goes_on refl x.read, x.read.within)
