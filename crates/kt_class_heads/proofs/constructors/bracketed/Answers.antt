@@ -1,0 +1,22 @@
+use Rattle.std.proofs.lemmas.Result.{err_from_is_err_and}
+use Rattle.kt_lexer.specs.declared.token.Operator.TheVariants as operator
+use Rattle.kt_grammar.proofs.Advances.{halts_first, halts_second, halts_after}
+use Rattle.kt_grammar.proofs.TypeRows.{has_op}
+use Rattle.kt_class_heads.proofs.ConstructorRows.{has_parameters_close, bracketed_from}
+use Rattle.kt_class_heads.proofs.constructors.bracketed.Goals as goal
+
+pub returns-in_err-next : goal.returns-in_err-next
+returns-in_err-next c = let p = err_from_is_err_and c.from_residual.result c.from_residual.ensures.1 in rw (p.1, p.2) (halts_first has_parameters_close c.in_err-next.ensures)
+
+pub returns-in_err-all : goal.returns-in_err-all
+returns-in_err-all c =
+    let p = err_from_is_err_and c.from_residual-in_err-all.result c.from_residual-in_err-all.ensures.1 in
+    rw (p.1, p.2) (let o = c.in_ok-next.ensures in halts_after o.taken o.so_far (halts_first (has_op operator.CloseRound) c.in_err-all.ensures))
+
+pub returns-in_err-end : goal.returns-in_err-end
+returns-in_err-end c =
+    let p = err_from_is_err_and c.from_residual-in_err-end.result c.from_residual-in_err-end.ensures.1 in
+    rw (p.1, p.2) (let o = c.in_ok-next.ensures in let x = c.in_ok-all.ensures in halts_after o.taken o.so_far (halts_second x.read x.so_far c.in_err-end.ensures))
+
+pub returns : goal.returns
+returns c = bracketed_from c.new-none.ensures c.in_ok-next.ensures c.in_ok-all.ensures c.in_ok-end.ensures

@@ -1,0 +1,3 @@
+pub mod Constructors
+pub mod Parameters
+pub mod Supertypes
