@@ -1,0 +1,13 @@
+use Rattle.std.proofs.lemmas.Result.{err_from_is_err_and}
+use Rattle.kt_grammar.proofs.Advances.{halts_row, halts_first, halts_after}
+use Rattle.kt_classes.proofs.BodyRows.{has_from_constants, enum_from}
+use Rattle.kt_classes.proofs.bodies.enum_body.Goals as goal
+
+pub returns-in_err-next : goal.returns-in_err-next
+returns-in_err-next c = let p = err_from_is_err_and c.from_residual.result c.from_residual.ensures.1 in rw (p.1, p.2) (halts_row (halts_first has_from_constants c.in_err-next.ensures))
+
+pub returns-in_err-parts : goal.returns-in_err-parts
+returns-in_err-parts c = let p = err_from_is_err_and c.from_residual-in_err-parts.result c.from_residual-in_err-parts.ensures.1 in rw (p.1, p.2) (let o = c.in_ok-next.ensures in halts_row (halts_after o.taken o.so_far c.in_err-parts.ensures))
+
+pub returns : goal.returns
+returns c = enum_from c.in_ok-next.ensures c.in_ok-parts.ensures

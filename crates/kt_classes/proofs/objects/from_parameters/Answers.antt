@@ -1,0 +1,14 @@
+use Rattle.std.proofs.lemmas.Result.{err_from_is_err_and}
+use Rattle.kt_grammar.specs.Rows as rows
+use Rattle.kt_grammar.proofs.Advances.{halts_first, halts_second}
+use Rattle.kt_classes.proofs.ClassRows.{has_heritage, inherited_from}
+use Rattle.kt_classes.proofs.objects.from_parameters.Goals as goal
+
+pub returns-in_err-params : goal.returns-in_err-params
+returns-in_err-params c = let p = err_from_is_err_and c.from_residual.result c.from_residual.ensures.1 in rw (p.1, p.2) (halts_first (has_heritage (rows.class_body rows.in_interface)) c.in_err-params.ensures)
+
+pub returns-in_err-heritage : goal.returns-in_err-heritage
+returns-in_err-heritage c = let p = err_from_is_err_and c.from_residual-in_err-heritage.result c.from_residual-in_err-heritage.ensures.1 in rw (p.1, p.2) (let x = c.in_ok-params.ensures in halts_second x.read x.so_far c.in_err-heritage.ensures)
+
+pub returns : goal.returns
+returns c = inherited_from (rows.class_body rows.in_interface) c.in_ok-params.ensures c.in_ok-heritage.ensures
