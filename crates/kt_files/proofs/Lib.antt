@@ -1,0 +1,5 @@
+pub mod HeadRows
+pub mod ModifierRows
+pub mod UnmodifiedRows
+pub mod ListRows
+pub mod FileRows
