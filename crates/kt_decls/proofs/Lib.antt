@@ -1,2 +1,3 @@
 pub mod Scanning
 pub mod LoneNames
+pub mod FileRows

@@ -1,8 +1,9 @@
 //! Types of small texts: the place behind each, or the place at which it is refused.
-use kc_text::{Fail, Names, Text};
+use kc_text::{Fail, Text};
 use kc_tree::{Expr, ExprKind, Type};
 use kt_grammar::*;
 use kt_lexer::{Token, tokens};
+use kt_names::reserved_names;
 use sqlite_items::Items;
 use std::alloc::Global;
 use std::process::Abort;
@@ -10,10 +11,7 @@ use std::test::Fail as Failed;
 
 /// The tokens of a text, after the names that mean something before certain tokens.
 pub fn cut(alloc: Global, source: &str) -> Result<Items<Token>, Failed> {
-    let mut names = Names::new(alloc);
-    for word in ["catch", "finally", "out"] {
-        names.add(Text::from_str(alloc, word)?)?;
-    }
+    let mut names = reserved_names(alloc)?;
     let text = Text::from_str(alloc, source)?;
     match tokens(alloc, &text, 0, &mut names) {
         Ok(found) => Ok(found),
