@@ -68,7 +68,8 @@ fn assign_sign(op: AssignOp) -> &'static str {
     }
 }
 
-fn choice(first: bool, sign: &'static str, other: &'static str) -> &'static str {
+/// One of two signs.
+pub fn choice(first: bool, sign: &'static str, other: &'static str) -> &'static str {
     if first { sign } else { other }
 }
 
@@ -179,7 +180,8 @@ fn cases<'t>(
     sign(parts, ")")
 }
 
-fn block<'t>(
+/// Statements between two signs.
+pub fn block<'t>(
     parts: &mut Parts<'t>,
     before: &'static str,
     all: &'t [Expr],

@@ -5,9 +5,15 @@ mod expressions;
 mod lists;
 mod parts;
 mod print;
+mod sources;
 mod types;
 
-pub use print::line_of;
+pub use expressions::{block, choice};
+pub use lists::{args, dotted};
+pub use parts::{Node, Part, Parts, around, expr, sign, type_};
+pub use print::{line_of, line_of_parts};
+pub use sources::{cut, with_lines};
+pub use types::colon_type;
 
 #[cfg(test)]
 mod call_tests;

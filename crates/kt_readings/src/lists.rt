@@ -69,6 +69,7 @@ pub fn dotted(parts: &mut Parts<'_>, all: &[Word]) -> Result<(), Memory> {
     Ok(())
 }
 
+/// Arguments, each behind a space.
 pub fn args<'t>(parts: &mut Parts<'t>, all: &'t [Arg]) -> Result<(), Memory> {
     for one in all {
         parts.extend_from_slice(&[Part::Sign(" "), Part::Node(Node::Arg(one))])?;

@@ -31,10 +31,12 @@ pub enum Node<'t> {
 /// The parts of a node in the order in which they are written.
 pub type Parts<'t> = Vec<Part<'t>>;
 
+/// An expression or a statement as a part.
 pub fn expr(of: &Expr) -> Part<'_> {
     Part::Node(Node::Expr(of))
 }
 
+/// A type as a part.
 pub fn type_(of: &Type) -> Part<'_> {
     Part::Node(Node::Type(of))
 }
@@ -73,6 +75,7 @@ pub fn bracketed<'t>(
     Ok(())
 }
 
+/// A sign alone.
 pub fn sign(parts: &mut Parts<'_>, sign: &'static str) -> Result<(), Memory> {
     parts.push(Part::Sign(sign))?;
     Ok(())

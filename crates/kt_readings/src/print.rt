@@ -84,9 +84,16 @@ fn write(
     }
 }
 
+/// Parts as a line. Want of memory is also what nests deeper than 500.
+pub fn line_of_parts(alloc: Global, names: &Names, parts: &[Part<'_>]) -> Result<String, Memory> {
+    let mut line = String::new(alloc);
+    for part in parts {
+        write(alloc, names, &mut line, 500, *part)?;
+    }
+    Ok(line)
+}
+
 /// An expression or a statement as a line: a sign and its operands in brackets. Want of memory is also what nests deeper than 500.
 pub fn line_of(alloc: Global, names: &Names, of: &Expr) -> Result<String, Memory> {
-    let mut line = String::new(alloc);
-    write(alloc, names, &mut line, 500, expr(of))?;
-    Ok(line)
+    line_of_parts(alloc, names, &[expr(of)])
 }

@@ -1,54 +1,16 @@
 //! What a text is read as: its tree as a line, or the fault's place.
 
-use crate::line_of;
-use kc_text::{Fail, Names, Text};
+use crate::{cut, line_of, with_lines};
+use kc_text::{Fail, Names};
 use kc_tree::Expr;
 use kt_grammar::Cursor;
-use kt_lexer::{Token, tokens};
+use kt_lexer::Token;
+use kt_names::reserved_names;
 use kt_parser::{expression, statement};
 use kt_suffixes::suffix_table;
-use sqlite_items::Items;
 use std::alloc::Global;
 use std::process::Abort;
 use std::test::Fail as Failed;
-
-/// The words that mean something before certain tokens, in the order of their numbers.
-const RESERVED: [&str; 26] = [
-    "catch",
-    "finally",
-    "out",
-    "get",
-    "set",
-    "init",
-    "constructor",
-    "import",
-    "public",
-    "internal",
-    "private",
-    "final",
-    "open",
-    "abstract",
-    "sealed",
-    "data",
-    "enum",
-    "override",
-    "operator",
-    "infix",
-    "inline",
-    "const",
-    "vararg",
-    "noinline",
-    "crossinline",
-    "reified",
-];
-
-fn reserved(alloc: Global) -> Result<Names, Failed> {
-    let mut names = Names::new(alloc);
-    for word in RESERVED {
-        names.add(Text::from_str(alloc, word)?)?;
-    }
-    Ok(names)
-}
 
 /// What is read at the start of the tokens.
 #[derive(Clone, Copy)]
@@ -90,28 +52,13 @@ fn told(alloc: Global, names: &Names, tokens: &[Token], goal: Goal) -> Result<St
     }
 }
 
-fn cut(alloc: Global, source: &str, names: &mut Names) -> Result<Items<Token>, Failed> {
-    let text = Text::from_str(alloc, source)?;
-    match tokens(alloc, &text, 0, names) {
-        Ok(found) => Ok(found),
-        Err(_) => Err(Failed::from("no cut")),
-    }
-}
-
 /// What the text is read as.
 pub fn shown(alloc: Global, source: &str, goal: Goal) -> Result<String, Failed> {
-    let mut names = reserved(alloc)?;
-    let found = cut(alloc, source, &mut names)?;
+    let mut names = reserved_names(alloc)?;
+    let Some(found) = cut(alloc, source, &mut names)? else {
+        return Err(Failed::from("no cut"));
+    };
     told(alloc, &names, found.as_slice(), goal)
-}
-
-/// The text, with a line's end in place of each `¶`.
-fn with_lines(alloc: Global, source: &str) -> Result<String, Failed> {
-    let mut text = String::new(alloc);
-    for c in source.chars() {
-        text.push(if c == '¶' { '\n' } else { c })?;
-    }
-    Ok(text)
 }
 
 fn compare_row(rt: &impl Abort, alloc: Global, goal: Goal, row: &str) -> Result<(), Failed> {

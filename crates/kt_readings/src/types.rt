@@ -42,11 +42,16 @@ pub fn type_argument_parts<'t>(parts: &mut Parts<'t>, of: &'t TypeArg) -> Result
     }
 }
 
-/// A name with its type, where one is written.
-pub fn local_parts<'t>(parts: &mut Parts<'t>, of: &'t LocalName) -> Result<(), Memory> {
-    parts.push(Part::Name(of.name.name))?;
-    match &of.ty {
+/// A type behind `:`, where one is written.
+pub fn colon_type<'t>(parts: &mut Parts<'t>, ty: &'t Option<Type>) -> Result<(), Memory> {
+    match ty {
         Some(ty) => around(parts, ": ", type_(ty), ""),
         None => Ok(()),
     }
+}
+
+/// A name with its type, where one is written.
+pub fn local_parts<'t>(parts: &mut Parts<'t>, of: &'t LocalName) -> Result<(), Memory> {
+    parts.push(Part::Name(of.name.name))?;
+    colon_type(parts, &of.ty)
 }
