@@ -1,0 +1,4 @@
+pub mod Sights
+pub mod Forms
+pub mod Clear
+pub mod Unread
